@@ -1,0 +1,6 @@
+pub mod Bools
+pub mod PlaceLaws
+pub mod TestLaws
+pub mod ChooseLaws
+pub mod LoopLaws
+pub mod RunLaws

@@ -1,0 +1,7 @@
+pub mod FrameLaws
+pub mod StepLaws
+pub mod AimLaws
+pub mod RestLaws
+pub mod QuoteLaws
+pub mod EaseLaws
+pub mod RequestLaws

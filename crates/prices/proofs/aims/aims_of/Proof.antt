@@ -1,0 +1,36 @@
+use Rattle.prices.proofs.AimLaws.{given-minded}
+use Rattle.prices.proofs.StepLaws.{is-given, given-is}
+use Rattle.prices.specs.Aims.{aimDisplay, aimWorking}
+use borrow.Author.Needs.{needs}
+use Rattle.prices.proofs.aims.aims_of.Statement.{statement}
+use Rattle.prices.proofs.aims.aims_of.Tie as tie
+
+contra-minded-requires : tie.Need-contra-minded-requires
+contra-minded-requires c κs = search needs
+
+held-short-requires : tie.Need-held-short-requires
+held-short-requires c κs = search needs
+
+held-short-requires-2 : tie.Need-held-short-requires-2
+held-short-requires-2 c κs = (c .before .before .pre .step, rw (c .before .contra-minded .ensures) (given-is (given-minded _ (is-given _ _ (c .before .before .pre .contra)))))
+
+held-to-requires : tie.Need-held-to-requires
+held-to-requires c κs = search needs
+
+held-short-requires-3 : tie.Need-held-short-requires-3
+held-short-requires-3 c κs = (c .before .before .before .before .pre .step, rw (c .before .before .before .contra-minded .ensures) (given-is (given-minded _ (is-given _ _ (c .before .before .before .before .pre .contra)))))
+
+returns : tie.Need-returns
+unfolding aimDisplay aimWorking
+returns c = rw (c .held-short3 .ensures, c .before .held-to .ensures, c .before .before .held-short2 .ensures, c .before .before .before .held-short .ensures, c .before .before .before .before .contra-minded .ensures)
+
+pub aims-of-spec : {M : Type 1} → statement M
+aims-of-spec =
+    tie.close
+    (tie.spec
+    contra-minded-requires
+    held-short-requires
+    held-short-requires-2
+    held-to-requires
+    held-short-requires-3
+    returns)

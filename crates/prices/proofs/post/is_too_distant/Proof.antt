@@ -1,0 +1,19 @@
+use borrow.Author.Needs.{needs}
+use Rattle.prices.proofs.post.is_too_distant.Statement.{statement}
+use Rattle.prices.proofs.post.is_too_distant.Tie as tie
+
+is-sliding-requires : tie.Need-is-sliding-requires
+is-sliding-requires c κs = search needs
+
+most-distant-requires : tie.Need-most-distant-requires
+most-distant-requires c κs = search needs
+
+distance-requires : tie.Need-distance-requires
+distance-requires c κs = search needs
+
+returns : tie.Need-returns
+returns c = rw (c .distance .ensures, c .before .most-distant .ensures, c .before .before .is-sliding .ensures)
+
+pub is-too-distant-spec : {M : Type 1} → statement M
+is-too-distant-spec =
+    tie.close (tie.spec is-sliding-requires most-distant-requires distance-requires returns)

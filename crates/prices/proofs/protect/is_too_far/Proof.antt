@@ -1,0 +1,15 @@
+use borrow.Author.Needs.{needs}
+use Rattle.prices.proofs.protect.is_too_far.Statement.{statement}
+use Rattle.prices.proofs.protect.is_too_far.Tie as tie
+
+far-figures-requires : tie.Need-far-figures-requires
+far-figures-requires c κs = search needs
+
+is-limited-requires : tie.Need-is-limited-requires
+is-limited-requires c κs = search needs
+
+returns : tie.Need-returns
+returns c = rw (c .before .is-limited .ensures, c .before .before .far-figures .ensures)
+
+pub is-too-far-spec : {M : Type 1} → statement M
+is-too-far-spec = tie.close (tie.spec far-figures-requires is-limited-requires returns)

@@ -1,0 +1,17 @@
+use Rattle.prices.specs.Rest.{marketable}
+use borrow.Author.Needs.{needs}
+use Rattle.prices.proofs.rest.is_marketable.Statement.{statement}
+use Rattle.prices.proofs.rest.is_marketable.Tie as tie
+
+is-minding-requires : tie.Need-is-minding-requires
+is-minding-requires c κs = search needs
+
+is-reaching-requires : tie.Need-is-reaching-requires
+is-reaching-requires c κs = search needs
+
+returns : tie.Need-returns
+unfolding marketable
+returns c = rw (c .is-reaching .ensures, c .before .is-minding .ensures)
+
+pub is-marketable-spec : {M : Type 1} → statement M
+is-marketable-spec = tie.close (tie.spec is-minding-requires is-reaching-requires returns)

@@ -1,0 +1,43 @@
+-- The step: which prices are legal, and what one step is. Nothing outside this file and its laws (proofs/StepLaws) knows how long a step is.
+-- Assumes nothing.
+use Prim.Native.Nat.{ℕ, _+_, _-_, _*_, _%_}
+use mathlib.Core.Bool.{Bool, true, false, not, _&&_, _||_}
+use lib.Dec.{eqb, leb}
+use Rattle.prices.specs.Side.{reaches}
+
+-- "the series' MPV: 1, 5 or 10"
+unfoldable pub mpv : ℕ → Bool
+mpv m = eqb m 1 || (eqb m 5 || eqb m 10)
+
+-- "Prices are cents, from M to 100,000 and multiples of M"
+unfoldable pub onGrid : ℕ → ℕ → Bool
+onGrid m p = eqb (p % m) 0
+
+unfoldable pub legal : ℕ → ℕ → Bool
+legal m p = leb m p && (leb p 100000 && onGrid m p)
+
+-- a price that may be missing: none, or a legal one
+unfoldable pub given : ℕ → ℕ → Bool
+given m p = eqb p 0 || legal m p
+
+-- one step back: a buy's price "-M", a sell's plus M
+unfoldable pub back : ℕ → Bool → ℕ → ℕ
+back m false p = p - m
+back m true p = p + m
+
+-- the end of the legal prices that a side slides back to, and a display past it: "below M (sell: above 100,000)"
+unfoldable pub lastPrice : ℕ → Bool → ℕ
+lastPrice m false = m
+lastPrice m true = 100000
+
+unfoldable pub pastLast : ℕ → Bool → ℕ → Bool
+pastLast m s p = not (reaches s p (lastPrice m s))
+
+-- "L minus display (sell: display minus L)"
+unfoldable pub apart : Bool → ℕ → ℕ → ℕ
+apart false l d = l - d
+apart true l d = d - l
+
+-- "K times M"
+unfoldable pub allowed : ℕ → ℕ → ℕ
+allowed m k = k * m

@@ -1,0 +1,77 @@
+// Price protection: the tests put to a quote before all else.
+use crate::Figures;
+use crate::Guard;
+use crate::step::less;
+ghost use mathlib.Core.Path.{_≡_};
+ghost use Prim.Native.Nat.{_≤_};
+ghost use Rattle.prices.specs.Protect.{bars25, bars26, figures24, limited24, bars24, protection, Cents};
+
+// A call's bid at or above the underlying price.
+pub fn is_above_underlying(guard: Guard, sell: bool, limit: u32) -> bool
+    ensures { λ r. ⌜ r ≡ bars25 guard sell limit ⌝ }
+{
+    !sell & (!guard.put & (!guard.exempt & ((guard.underlying != 0) & (guard.underlying <= limit))))
+}
+
+// A put's bid at or above the strike.
+pub fn is_above_strike(guard: Guard, sell: bool, limit: u32) -> bool
+    ensures { λ r. ⌜ r ≡ bars26 guard sell limit ⌝ }
+{
+    !sell & (guard.put & (!guard.exempt & (guard.strike <= limit)))
+}
+
+// What a limit is measured by against the best price of the other side.
+pub fn far_figures(sell: bool, best: u32, limit: u32) -> Figures
+    requires { ⌜ Cents best limit ⌝ }
+    ensures { λ r. ⌜ r ≡ figures24 sell best limit ⌝ }
+{
+    if sell {
+        return Figures {
+            first: 2 * less(best, limit),
+            second: best,
+        };
+    }
+    if best <= 100 {
+        return Figures {
+            first: limit,
+            second: best + 100,
+        };
+    }
+    Figures {
+        first: 2 * less(limit, best),
+        second: best,
+    }
+}
+
+// Whether there is a best price that sets a limit. Bids and offers are no mirror images here.
+fn is_limited(sell: bool, best: u32) -> bool
+    ensures { λ r. ⌜ r ≡ limited24 sell best ⌝ }
+{
+    if sell { 100 < best } else { best != 0 }
+}
+
+// Too far through the best price of the other side.
+pub fn is_too_far(sell: bool, best: u32, limit: u32) -> bool
+    requires { ⌜ Cents best limit ⌝ }
+    ensures { λ r. ⌜ r ≡ bars24 sell best limit ⌝ }
+{
+    let figures = far_figures(sell, best, limit);
+    is_limited(sell, best) & (figures.second <= figures.first)
+}
+
+// The reason to reject a quote at once, or 0.
+pub fn protection_of(guard: Guard, sell: bool, best: u32, limit: u32) -> u32
+    requires { ⌜ Cents best limit ⌝ }
+    ensures { λ r. ⌜ r ≡ protection guard sell best limit ⌝ }
+{
+    if is_above_underlying(guard, sell, limit) {
+        return 25;
+    }
+    if is_above_strike(guard, sell, limit) {
+        return 26;
+    }
+    if is_too_far(sell, best, limit) {
+        return 24;
+    }
+    0
+}

@@ -1,0 +1,549 @@
+#!/usr/bin/env python3
+"""The table of questions about prices, and the answers that document 01 gives.
+
+    python3 tests/price_vectors.py            writes crates/prices_vectors/stdin and crates/prices_vectors/stdout
+    python3 tests/price_vectors.py --check    says whether the two files are what it would write
+    python3 tests/price_vectors.py --list     prints each question and its answer, as text
+
+Run it from anywhere. It needs nothing but Python 3, and it runs no program of this repository: the answers are worked out here, from the words of
+document 01, once for a buy and once for a sell. The gate runs the crate prices_vectors on the one file and compares what it prints with the other.
+
+A question is nine numbers of four bytes, most significant first: what is asked, and eight figures, zero where there are fewer.
+Its answer is one line. `-` stands for a question outside what the rule asked is for.
+
+    1 aims        kind side limit away contra M                           refusal, display aim, working aim
+    2 protection  put exempt strike underlying side best limit            25, 26, 24 or 0
+    3 stop        M K kind side limit away hidden display                 20, 21, 23, 22 or 0; hidden: undisplayed interest in the way of an MMLO
+    4 resting     side display aim-display aim-working                    display, working price
+    5 eased       side away display working                               working price
+    6 legal       M price                                                 1 or 0
+    7 restless    M kind side limit away contra display working           1 or 0: marketable, or not at its resting prices
+    8 slide       M side limit display working                            1 or 0: sound prices of a sliding quote
+    9 best        side away shown                                         NBO for a bid, NBB for an offer; shown: the best displayed contra price
+    10 away       side bid offer                                          the away price that A stands for: the offer for a buy, the bid for a sell
+"""
+import os
+import random
+import struct
+import sys
+
+PLAIN, MMLO, MMALO, MMRP, DISPLAYED, DARK = 1, 2, 3, 4, 5, 6
+BUY, SELL = 0, 1
+MPVS = (1, 5, 10)
+MOST = 4294967295
+NONE = 0
+
+
+# ---- document 01, "Numbers" ----
+
+def legal(m, price):
+    """Prices are cents, from M to 100,000 and multiples of M."""
+    return m <= price <= 100000 and price % m == 0
+
+
+def none_or_legal(m, price):
+    """An away bid or away offer of 0 means none."""
+    return price == NONE or legal(m, price)
+
+
+# ---- document 01, "Prices an entry has", for a buy: L the limit, A the away offer, C the lowest working price of any sell ----
+
+def buy_aims(m, kind, limit, away_offer, lowest_sell):
+    display, working = [limit], [limit]
+    if away_offer != NONE:
+        display.append(away_offer - m)
+        working.append(away_offer)
+    if kind == MMALO and lowest_sell != NONE:
+        display.append(lowest_sell - m)
+        working.append(lowest_sell - m)
+    return min(display), min(working)
+
+
+def buy_marketable(kind, working_aim, lowest_sell):
+    return kind == MMRP and lowest_sell != NONE and working_aim >= lowest_sell
+
+
+def buy_resting(display, display_aim, working_aim):
+    shown = max(display, display_aim)
+    return shown, max(shown, working_aim)
+
+
+def buy_eased(away_offer, display, working):
+    if away_offer != NONE and working > away_offer:
+        return max(display, away_offer)
+    return working
+
+
+def buy_sound(m, limit, display, working):
+    return legal(m, display) and legal(m, working) and working >= display and working - display <= m and working <= limit
+
+
+# ---- the same for a sell, the mirror image: L the limit, B the away bid, C the highest working price of any buy ----
+
+def sell_aims(m, kind, limit, away_bid, highest_buy):
+    display, working = [limit], [limit]
+    if away_bid != NONE:
+        display.append(away_bid + m)
+        working.append(away_bid)
+    if kind == MMALO and highest_buy != NONE:
+        display.append(highest_buy + m)
+        working.append(highest_buy + m)
+    return max(display), max(working)
+
+
+def sell_marketable(kind, working_aim, highest_buy):
+    return kind == MMRP and highest_buy != NONE and working_aim <= highest_buy
+
+
+def sell_resting(display, display_aim, working_aim):
+    shown = min(display, display_aim)
+    return shown, min(shown, working_aim)
+
+
+def sell_eased(away_bid, display, working):
+    if away_bid != NONE and working < away_bid:
+        return min(display, away_bid)
+    return working
+
+
+def sell_sound(m, limit, display, working):
+    return legal(m, display) and legal(m, working) and working <= display and display - working <= m and working >= limit
+
+
+# ---- document 01, "Arrival": price protection. Offers are no mirror image of bids here ----
+
+def best_offer(away_offer, lowest_displayed_sell):
+    offers = [p for p in (away_offer, lowest_displayed_sell) if p != NONE]
+    return min(offers) if offers else NONE
+
+
+def best_bid(away_bid, highest_displayed_buy):
+    bids = [p for p in (away_bid, highest_displayed_buy) if p != NONE]
+    return max(bids) if bids else NONE
+
+
+def bid_protection(put, exempt, strike, underlying, nbo, bid):
+    if not put and not exempt and underlying != NONE and bid >= underlying:
+        return 25
+    if put and not exempt and bid >= strike:
+        return 26
+    if nbo != NONE and nbo <= 100 and bid >= nbo + 100:
+        return 24
+    if nbo != NONE and nbo > 100 and 2 * (bid - nbo) >= nbo:
+        return 24
+    return 0
+
+
+def offer_protection(nbb, offer):
+    if nbb != NONE and nbb > 100 and 2 * (nbb - offer) >= nbb:
+        return 24
+    return 0
+
+
+# ---- document 01, "Arrival": what is left posts, unless ----
+
+def buy_stop(m, k, kind, limit, away_offer, hidden, display):
+    slides = kind in (MMALO, MMRP)
+    if not slides and away_offer != NONE and limit >= away_offer:
+        return 20
+    if hidden:
+        return 21
+    if slides and display < m:
+        return 23
+    if slides and limit - display > k * m:
+        return 22
+    return 0
+
+
+def sell_stop(m, k, kind, limit, away_bid, hidden, display):
+    slides = kind in (MMALO, MMRP)
+    if not slides and away_bid != NONE and limit <= away_bid:
+        return 20
+    if hidden:
+        return 21
+    if slides and display > 100000:
+        return 23
+    if slides and display - limit > k * m:
+        return 22
+    return 0
+
+
+# ---- document 01, "Reports": the request for aims ----
+
+def request(kind, side, limit, away, contra, m):
+    if kind not in (MMALO, MMRP) or side > 1 or m not in MPVS:
+        return 1, 0, 0
+    if not legal(m, limit) or not none_or_legal(m, away) or not none_or_legal(m, contra):
+        return 3, 0, 0
+    if side == BUY:
+        return (0, *buy_aims(m, kind, limit, away, contra))
+    return (0, *sell_aims(m, kind, limit, away, contra))
+
+
+# ---- the ten kinds of question ----
+
+def answer_aims(kind, side, limit, away, contra, m):
+    return request(kind, side, limit, away, contra, m)
+
+
+def answer_protection(put, exempt, strike, underlying, side, best, limit):
+    if best > 100000 or limit > 100000:
+        return None
+    if side == BUY:
+        return (bid_protection(put, exempt, strike, underlying, best, limit),)
+    return (offer_protection(best, limit),)
+
+
+def answer_stop(m, k, kind, side, limit, away, hidden, display):
+    if m not in MPVS or k > 100:
+        return None
+    rule = buy_stop if side == BUY else sell_stop
+    return (rule(m, k, kind, limit, away, hidden, display),)
+
+
+def answer_resting(side, display, display_aim, working_aim):
+    return (buy_resting if side == BUY else sell_resting)(display, display_aim, working_aim)
+
+
+def answer_eased(side, away, display, working):
+    return ((buy_eased if side == BUY else sell_eased)(away, display, working),)
+
+
+def answer_legal(m, price):
+    if m not in MPVS:
+        return None
+    return (int(legal(m, price)),)
+
+
+def answer_restless(m, kind, side, limit, away, contra, display, working):
+    if m not in MPVS or not none_or_legal(m, away) or not none_or_legal(m, contra):
+        return None
+    if side == BUY:
+        aims = buy_aims(m, kind, limit, away, contra)
+        return (int(buy_marketable(kind, aims[1], contra) or (display, working) != buy_resting(display, *aims)),)
+    aims = sell_aims(m, kind, limit, away, contra)
+    return (int(sell_marketable(kind, aims[1], contra) or (display, working) != sell_resting(display, *aims)),)
+
+
+def answer_slide(m, side, limit, display, working):
+    if m not in MPVS:
+        return None
+    return (int((buy_sound if side == BUY else sell_sound)(m, limit, display, working)),)
+
+
+def answer_best(side, away, shown):
+    return ((best_offer if side == BUY else best_bid)(away, shown),)
+
+
+def answer_away(side, bid, offer):
+    """A is the away offer; for a sell, its mirror image, the away bid."""
+    return (offer if side == BUY else bid,)
+
+
+ASK = {
+    "aims": (1, answer_aims),
+    "protection": (2, answer_protection),
+    "stop": (3, answer_stop),
+    "resting": (4, answer_resting),
+    "eased": (5, answer_eased),
+    "legal": (6, answer_legal),
+    "restless": (7, answer_restless),
+    "slide": (8, answer_slide),
+    "best": (9, answer_best),
+    "away": (10, answer_away),
+}
+
+TABLE = []
+
+
+def add(what, *figures, says=None):
+    """One question. `says` is the answer written out by hand, as document 01 states it: the model must give the same."""
+    number, rule = ASK[what]
+    got = rule(*figures)
+    line = "-" if got is None else " ".join(str(x) for x in got)
+    assert says is None or line == says, f"{what} {figures}: expected {says}, the model says {line}"
+    TABLE.append((what, number, figures, line))
+    return line
+
+
+def mirrored(m, price):
+    """The price of a sell that faces what `price` is to a buy: the lowest legal price stands for the highest. None stays none."""
+    return NONE if price == NONE else 100000 + m - price
+
+
+def add_both(kind, limit, away, contra, m, says=None):
+    """The aims of a buy, and of the sell that is its mirror image: the answers must mirror each other."""
+    buy = request(kind, BUY, limit, away, contra, m)
+    sell = request(kind, SELL, mirrored(m, limit), mirrored(m, away), mirrored(m, contra), m)
+    assert buy[0] == 0 and sell == (0, 100000 + m - buy[1], 100000 + m - buy[2]), (kind, limit, away, contra, m, buy, sell)
+    add("aims", kind, BUY, limit, away, contra, m, says=says)
+    add("aims", kind, SELL, mirrored(m, limit), mirrored(m, away), mirrored(m, contra), m)
+
+
+# ---- the class examples, as far as they are about prices ----
+
+def class_examples():
+    # a, b. K 3, sell 99 in book, A 100: MMALO buy 101 rests 98/98; 102 rejected 22.
+    add_both(MMALO, 101, 100, 99, 1, says="0 98 98")
+    add("stop", 1, 3, MMALO, BUY, 101, 100, 0, 98, says="0")
+    add_both(MMALO, 102, 100, 99, 1, says="0 98 98")
+    add("stop", 1, 3, MMALO, BUY, 102, 100, 0, 98, says="22")
+    # c, d. One contract at 99, which trades: MMRP buy at 102 rests 99/100; at 103 the rest is cancelled 22.
+    add_both(MMRP, 102, 100, 99, 1, says="0 99 100")
+    add_both(MMRP, 102, 100, NONE, 1, says="0 99 100")
+    add("stop", 1, 3, MMRP, BUY, 102, 100, 0, 99, says="0")
+    add_both(MMRP, 103, 100, NONE, 1, says="0 99 100")
+    add("stop", 1, 3, MMRP, BUY, 103, 100, 0, 99, says="22")
+    # e. Book 198 x 222, away 197 x 223: MMALO buy 225 rests 221/221.
+    add_both(MMALO, 225, 223, 222, 1, says="0 221 221")
+    add("stop", 1, 10, MMALO, BUY, 225, 223, 0, 221, says="0")
+    # f, g. A 220, empty book: plain buy 220 rejected 20; 219 rests.
+    add("stop", 1, 10, PLAIN, BUY, 220, 220, 0, 220, says="20")
+    add("stop", 1, 10, PLAIN, BUY, 219, 220, 0, 219, says="0")
+    # h. A 1: MMRP buy 1 rejected 23.
+    add_both(MMRP, 1, 1, NONE, 1, says="0 0 1")
+    add("stop", 1, 10, MMRP, BUY, 1, 1, 0, 0, says="23")
+    # i. NBO 100: bid 200 rejected 24, 199 passes. j. NBO 101: 152 rejected, 151 passes.
+    add("protection", 0, 1, 200, NONE, BUY, 100, 200, says="24")
+    add("protection", 0, 1, 200, NONE, BUY, 100, 199, says="0")
+    add("protection", 0, 1, 200, NONE, BUY, 101, 152, says="24")
+    add("protection", 0, 1, 200, NONE, BUY, 101, 151, says="0")
+    # k. Put, strike 200, not exempt: bid 200 rejected 26, 199 passes.
+    add("protection", 1, 0, 200, NONE, BUY, NONE, 200, says="26")
+    add("protection", 1, 0, 200, NONE, BUY, NONE, 199, says="0")
+    # l. The dark sell at 221 is in the way of what is left of MMLO buy 222: rest cancelled 21.
+    add("stop", 1, 10, MMLO, BUY, 222, NONE, 1, 222, says="21")
+    # The session. Away 200/220, sell 222 in book: MMRP buy 225 rests 219/220.
+    add_both(MMRP, 225, 220, 222, 1, says="0 219 220")
+    add("stop", 1, 10, MMRP, BUY, 225, 220, 0, 219, says="0")
+    # Away offer 219: it drops to 219, stays displayed at 219 ("leaves it there"), and has then nothing to do.
+    add("eased", BUY, 219, 219, 220, says="219")
+    add_both(MMRP, 225, 219, 222, 1, says="0 218 219")
+    add("resting", BUY, 219, 218, 219, says="219 219")
+    add("restless", 1, MMRP, BUY, 225, 219, 222, 219, 219, says="0")
+    # Away offer gone: marketable against 222.
+    add("restless", 1, MMRP, BUY, 225, NONE, 222, 219, 219, says="1")
+
+
+# ---- the request for aims at its edges ----
+
+# a limit, an away price and a contra price that are legal whatever the MPV
+MIDDLING = (50000, 49990, 49970)
+
+
+def refusals():
+    # kinds, sides and MPVs, one and two wrong at a time
+    for kind in (0, 1, 2, 3, 4, 5, 6, 7, MOST):
+        for side in (0, 1, 2, MOST):
+            for m in (1, 2, 5, 10):
+                add("aims", kind, side, *MIDDLING, m)
+    for m in [*range(13), 15, 100, MOST]:
+        for kind in (MMALO, MMRP):
+            for side in (BUY, SELL):
+                add("aims", kind, side, *MIDDLING, m)
+    # each price at its edges, the others legal; the limit must be there, the other two may be 0
+    for m in MPVS:
+        edges = sorted({0, 1, m - 1, m, m + 1, 2 * m, 49990 + m // 2, 99999, 100000 - m, 100000, 100001, 100000 + m, MOST})
+        for kind in (MMALO, MMRP):
+            for side in (BUY, SELL):
+                for place in range(3):
+                    for edge in edges:
+                        prices = list(MIDDLING)
+                        prices[place] = edge
+                        add("aims", kind, side, *prices, m)
+    # 1 comes before 3
+    for prices in ((0, 0, 0), (100001, 100, 100), (100, MOST, 100), (100, 100, MOST)):
+        add("aims", 2, 0, *prices, 1, says="1 0 0")
+        add("aims", 3, 2, *prices, 1, says="1 0 0")
+        add("aims", 3, 0, *prices, 4, says="1 0 0")
+        add("aims", 3, 0, *prices, 1, says="3 0 0")
+
+
+def outside():
+    # an aim may fall one M outside the legal prices: 0 for a buy, 100,000+M for a sell
+    for m in MPVS:
+        for kind in (MMALO, MMRP):
+            for limit in (m, 100000):
+                for away in (NONE, m, 2 * m):
+                    for contra in (NONE, m, 2 * m):
+                        add_both(kind, limit, away, contra, m)
+    # a missing A or C does not bind
+    for m in MPVS:
+        for kind in (MMALO, MMRP):
+            for away, contra in ((NONE, NONE), (500, NONE), (NONE, 500), (500, 510), (510, 500), (500, 500)):
+                for limit in (490, 500, 520):
+                    add_both(kind, limit, away, contra, m)
+
+
+# ---- the other rules at their edges ----
+
+def protections():
+    for side in (BUY, SELL):
+        for away in (NONE, 100, 101, 100000):
+            for shown in (NONE, 100, 101, 100000):
+                add("best", side, away, shown)
+        for bid, offer in ((200, 220), (NONE, 220), (200, NONE), (220, 200)):
+            add("away", side, bid, offer)
+    for put in (0, 1):
+        for exempt in (0, 1):
+            for side in (BUY, SELL):
+                for underlying in (NONE, 300):
+                    for limit in (199, 200, 299, 300):
+                        add("protection", put, exempt, 200, underlying, side, NONE, limit)
+    # 24, an exempt call: every kind of best price with the limits about its edge
+    for best in (NONE, 1, 50, 99, 100, 101, 102, 103, 1000, 100000):
+        bids = {best + 99, best + 100, best + 101, best + best // 2 - 1, best + best // 2, best + best // 2 + 1, best}
+        offers = {best, best // 2 - 1, best // 2, best // 2 + 1, 1}
+        for limit in sorted(x for x in bids | offers if 1 <= x <= 100000):
+            add("protection", 0, 1, 200, NONE, BUY, best, limit)
+            add("protection", 0, 1, 200, NONE, SELL, best, limit)
+    # the first that applies, in the order 25, 26, 24
+    add("protection", 0, 0, 200, 300, BUY, 100, 300, says="25")
+    add("protection", 1, 0, 200, 300, BUY, 100, 300, says="26")
+    add("protection", 0, 1, 200, 300, BUY, 100, 300, says="24")
+    # outside what the rule is for
+    add("protection", 0, 0, 200, 300, BUY, 100001, 300, says="-")
+    add("protection", 0, 0, 200, 300, BUY, 100, 100001, says="-")
+    add("protection", 0, 0, 200, 300, SELL, MOST, MOST, says="-")
+
+
+def stops():
+    for kind in (PLAIN, MMLO, MMALO, MMRP, DISPLAYED, DARK):
+        for side in (BUY, SELL):
+            for limit in (499, 500, 501):
+                add("stop", 1, 10, kind, side, limit, 500, 0, limit)
+                add("stop", 1, 10, kind, side, limit, NONE, 0, limit)
+    # 22 at its edge, by MPV and K
+    for m in MPVS:
+        for k in (0, 3, 100):
+            for kind in (MMALO, MMRP, PLAIN):
+                for steps in sorted({0, k, k + 1}):
+                    add("stop", m, k, kind, BUY, 5000, NONE, 0, 5000 - steps * m)
+                    add("stop", m, k, kind, SELL, 5000, NONE, 0, 5000 + steps * m)
+    # 23 at its edge, and before 22
+    for m in MPVS:
+        for kind in (MMALO, MMRP, PLAIN):
+            for k in (0, 100):
+                for display in (0, m, 2 * m):
+                    add("stop", m, k, kind, BUY, 2 * m, NONE, 0, display)
+                for display in (100000 - m, 100000, 100000 + m):
+                    add("stop", m, k, kind, SELL, 100000 - m, NONE, 0, display)
+    # 20 before 21; 21 of itself
+    add("stop", 1, 10, MMLO, BUY, 500, 500, 1, 500, says="20")
+    add("stop", 1, 10, MMLO, BUY, 500, 501, 1, 500, says="21")
+    add("stop", 1, 10, MMLO, SELL, 500, 500, 1, 500, says="20")
+    add("stop", 1, 10, MMLO, SELL, 500, 499, 1, 500, says="21")
+    # outside what the rule is for
+    add("stop", 1, 101, MMALO, BUY, 500, 500, 0, 499, says="-")
+    add("stop", 2, 10, MMALO, BUY, 500, 500, 0, 499, says="-")
+
+
+def slides():
+    for m in MPVS:
+        for p in (0, 1, m - 1, m, m + 1, 2 * m, 5, 10, 15, 99999, 99995, 99990, 100000, 100001, 100000 + m, MOST):
+            add("legal", m, p)
+    for m in (0, 2, 11, MOST):
+        add("legal", m, 100, says="-")
+    # a display never slides back, whatever the aims; the working price follows
+    for side in (BUY, SELL):
+        for display in (99, 100, 101):
+            for shown, works in ((98, 98), (98, 99), (99, 100), (100, 100), (101, 101), (100, 99), (101, 100)):
+                add("resting", side, display, shown, works)
+    # easing: short of the away price, at it, and past it; displayed there or not
+    for side in (BUY, SELL):
+        for away in (NONE, 98, 99, 100, 101, 102):
+            for display in (99, 100, 101):
+                for working in (99, 100, 101):
+                    add("eased", side, away, display, working)
+    # sound prices: legal, in order, at most M apart, within the limit
+    for m in MPVS:
+        for side in (BUY, SELL):
+            for display in (500 - 2 * m, 500 - m, 500, 500 + m, 500 + 2 * m, 500 + m // 2):
+                for limit in (500 - m, 500, 500 + m):
+                    add("slide", m, side, limit, display, 500)
+    add("slide", 3, BUY, 500, 500, 500, says="-")
+    add("slide", 1, BUY, 100001, 100000, 100001, says="0")
+    add("slide", 1, SELL, 1, 1, 0, says="0")
+
+
+# ---- outside figures, by a fixed seed ----
+
+def near(r, m, middle):
+    """A legal price a few steps from another."""
+    return min(max(middle + m * r.randint(-4, 4), m), 100000 // m * m)
+
+
+def maybe(r, price):
+    return NONE if r.random() < 0.2 else price
+
+
+def by_chance():
+    r = random.Random(20637)
+    for _ in range(150):
+        m, kind = r.choice(MPVS), r.choice((MMALO, MMRP))
+        middle = m * r.randint(1, 100000 // m)
+        add_both(kind, near(r, m, middle), maybe(r, near(r, m, middle)), maybe(r, near(r, m, middle)), m)
+    for _ in range(42):
+        add("aims", r.randint(2, 5), r.randint(0, 2), *(r.choice((r.randint(0, 100020), 5 * r.randint(0, 20004))) for _ in range(3)), r.choice((1, 5, 10, 5, 10, 3)))
+    for _ in range(100):
+        best = maybe(r, r.choice((r.randint(1, 120), r.randint(100, 66000))))
+        limit = max(1, min(100000, r.choice((best + 100, best + best // 2, best // 2, best)) + r.randint(-3, 3)))
+        add("protection", r.randint(0, 1), r.randint(0, 1), max(1, limit + r.randint(-2, 2)), max(0, limit + r.randint(-2, 2)), r.randint(0, 1), best, limit)
+    for _ in range(120):
+        m, k, kind, side = r.choice(MPVS), r.randint(0, 6), r.randint(1, 6), r.randint(0, 1)
+        middle = m * r.randint(1, 100000 // m)
+        add("stop", m, k, kind, side, near(r, m, middle), maybe(r, near(r, m, middle)), int(kind == MMLO and r.random() < 0.3), near(r, m, middle))
+    for _ in range(80):
+        middle = r.randint(10, 99990)
+        add("resting", r.randint(0, 1), *(middle + r.randint(-3, 3) for _ in range(3)))
+        add("eased", r.randint(0, 1), maybe(r, middle + r.randint(-3, 3)), middle + r.randint(-3, 3), middle + r.randint(-3, 3))
+    for _ in range(120):
+        m, kind, side = r.choice(MPVS), r.choice((MMALO, MMRP)), r.randint(0, 1)
+        middle = m * r.randint(10, 100000 // m - 10)
+        prices = near(r, m, middle), maybe(r, near(r, m, middle)), maybe(r, near(r, m, middle))
+        aims = (buy_aims if side == BUY else sell_aims)(m, kind, *prices)
+        step = m if side == BUY else -m
+        # at the aims, as a rule: a quote that has just moved
+        shown, works = r.choice((aims, aims, (aims[0] - step, aims[1]), (aims[0] + step, aims[1]), (aims[0], aims[1] - step)))
+        add("restless", m, kind, side, *prices, shown, works)
+        add("slide", m, side, prices[0], shown, works)
+
+
+def table():
+    class_examples()
+    refusals()
+    outside()
+    protections()
+    stops()
+    slides()
+    by_chance()
+    # a question that no rule answers
+    ASK["nothing"] = (11, lambda: None)
+    add("nothing", says="-")
+
+
+def main():
+    table()
+    stdin = b"".join(struct.pack(">9I", number, *figures, *([0] * (8 - len(figures)))) for _, number, figures, _ in TABLE)
+    stdout = "".join(line + "\n" for *_, line in TABLE).encode()
+    where = os.path.join(os.path.dirname(os.path.abspath(__file__)), "..", "crates", "prices_vectors")
+    words = sys.argv[1:]
+    if words == ["--list"]:
+        for what, _, figures, line in TABLE:
+            print(what, *figures, "->", line)
+    elif words == ["--check"]:
+        for name, made in (("stdin", stdin), ("stdout", stdout)):
+            if open(os.path.join(where, name), "rb").read() != made:
+                sys.exit(f"price_vectors: crates/prices_vectors/{name} is not what this script writes")
+        print(f"price_vectors: {len(TABLE)} questions, both files as written")
+    elif not words:
+        for name, made in (("stdin", stdin), ("stdout", stdout)):
+            with open(os.path.join(where, name), "wb") as f:
+                f.write(made)
+        print(f"price_vectors: {len(TABLE)} questions written")
+    else:
+        sys.exit(__doc__)
+
+
+if __name__ == "__main__":
+    main()
