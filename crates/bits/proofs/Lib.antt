@@ -1,0 +1,5 @@
+pub mod FieldLaws
+pub mod ByteLaws
+pub mod ReadLaws
+pub mod WriteLaws
+pub mod TestLaws

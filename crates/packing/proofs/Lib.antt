@@ -1,0 +1,5 @@
+pub mod CodecLaws
+pub mod MessageLaws
+pub mod ReportLaws
+pub mod SetupLaws
+pub mod RoomLaws

@@ -1,0 +1,68 @@
+-- Messages: their table is lawful, so that the laws of `CodecLaws` hold of them.
+use Prim.Native.Nat.{ℕ}
+use mathlib.Core.Bool.{Bool}
+use mathlib.Core.Option.{Option, none, some}
+use mathlib.Core.Path.{_≡_, refl, ap}
+use native.Mathlib.Omega.{arith}
+use lib.Dec.{eqb}
+use borrow.Author.Tests.{ne-eqb}
+use Rattle.packing.specs.declared.message.Terms.{Terms}
+use Rattle.packing.specs.declared.message.Event.{Event}
+use Rattle.packing.specs.declared.message.Event.the-variants.{Plain, Mmlo, Mmalo, Mmrp, Displayed, Dark, CancelEntry, CancelQuote, Away, Underlying, Phase, Enable}
+use Rattle.packing.specs.declared.message.Unpacked.the-variants.{Message, Nothing}
+use Rattle.packing.specs.Codec.{bit, lookUp}
+use Rattle.packing.specs.Message.{codeOf, kinds, claimedBy, messages, unpacked}
+use Rattle.packing.proofs.CodecLaws.{Lawful, bit-is}
+
+-- no other kind is in the table
+pub unknown-kind : (k : ℕ) (t : Terms) (second entry : ℕ)
+    → (k ≡ 1 → ⊥) → (k ≡ 2 → ⊥) → (k ≡ 3 → ⊥) → (k ≡ 4 → ⊥) → (k ≡ 5 → ⊥) → (k ≡ 6 → ⊥)
+    → (k ≡ 7 → ⊥) → (k ≡ 8 → ⊥) → (k ≡ 9 → ⊥) → (k ≡ 10 → ⊥) → (k ≡ 11 → ⊥) → (k ≡ 12 → ⊥)
+    → lookUp k (kinds t second entry) ≡ none
+unfolding kinds
+unknown-kind k t second entry n1 n2 n3 n4 n5 n6 n7 n8 n9 n10 n11 n12 =
+    simp (
+      ne-eqb _ _ n1,
+      ne-eqb _ _ n2,
+      ne-eqb _ _ n3,
+      ne-eqb _ _ n4,
+      ne-eqb _ _ n5,
+      ne-eqb _ _ n6,
+      ne-eqb _ _ n7,
+      ne-eqb _ _ n8,
+      ne-eqb _ _ n9,
+      ne-eqb _ _ n10,
+      ne-eqb _ _ n11,
+      ne-eqb _ _ n12,
+    )
+
+-- terms can be told from their fields
+terms-claimed : (t : Terms) → _≡_ {A = Terms} (record { party = t .party; sell = eqb (bit (t .sell)) 1; price = t .price; quantity = t .quantity }) t
+terms-claimed t i = record { party = t .party; sell = bit-is (t .sell) i; price = t .price; quantity = t .quantity }
+
+code-claimed : (e : Event) → claimedBy (codeOf e) ≡ some e
+unfolding kinds
+code-claimed (Plain t) = ap (λ (u : Terms). some (Plain u)) (terms-claimed t)
+code-claimed (Mmlo t) = ap (λ (u : Terms). some (Mmlo u)) (terms-claimed t)
+code-claimed (Mmalo t) = ap (λ (u : Terms). some (Mmalo u)) (terms-claimed t)
+code-claimed (Mmrp t) = ap (λ (u : Terms). some (Mmrp u)) (terms-claimed t)
+code-claimed (Displayed t) = ap (λ (u : Terms). some (Displayed u)) (terms-claimed t)
+code-claimed (Dark t) = ap (λ (u : Terms). some (Dark u)) (terms-claimed t)
+code-claimed (CancelEntry party entry) = refl
+code-claimed (CancelQuote party sell) = ap (λ (s : Bool). some (CancelQuote party s)) (bit-is sell)
+code-claimed (Away bid offer) = refl
+code-claimed (Underlying price) = refl
+code-claimed (Phase phase) = refl
+code-claimed (Enable party) = refl
+
+pub lawful : Lawful messages
+lawful = record { whole = refl; long = refl; code-claimed = code-claimed }
+
+-- an answer in Rattle's type says which it is
+pub was-nothing : (u : Option Event) → unpacked u ≡ Nothing → u ≡ none
+was-nothing none h = refl
+was-nothing (some e) h = absurd (let z : _≡_ {A = ℕ} 0 1 = cc in omega arith)
+
+pub was-message : (u : Option Event) (e : Event) → unpacked u ≡ Message e → u ≡ some e
+was-message none e h = absurd (let z : _≡_ {A = ℕ} 0 1 = cc in omega arith)
+was-message (some d) e h = let s : d ≡ e = cc in ap some s

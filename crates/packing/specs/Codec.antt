@@ -1,0 +1,69 @@
+-- What it is to be packed, once for setups, messages and reports: fields in bits, most significant bit first, and a table that says
+-- which number and which fields each case has.
+use Prim.Native.Nat.{ℕ}
+use mathlib.Core.Bool.{Bool, true, false, _&&_}
+use mathlib.Core.List.{List, [], _∷_}
+use mathlib.Core.Option.{Option, none, some}
+use lib.Dec.{eqb}
+use lib.ListN.{length}
+use Rattle.bits.specs.Fields.{join, split, bytes, allFit, equal}
+
+-- A sort of packed thing
+pub record Codec (E : Type 0) : Type 0 where
+  -- the widths of its fields, in bits, and the number of its bytes
+  pub widths : List ℕ
+  pub size : ℕ
+  -- the fields of a thing: the number of its case, the values that its case names, and 0 in every other field
+  pub code : E → List ℕ
+  -- the thing that the case's number and the fields which it names say, whatever the other fields hold
+  pub claimed : List ℕ → Option E
+  -- whether a thing's values are such as may be packed at all
+  pub admitted : E → Bool
+
+-- a bit of a side or a flag: 0 buy, 1 sell; 0 no, 1 yes
+abbrev pub bit : Bool → ℕ
+bit false = 0
+bit true = 1
+
+-- the answer, if the test holds; otherwise none
+abbrev pub onlyIf : {A : Type 0} → Bool → Option A → Option A
+onlyIf true a = a
+onlyIf false a = none
+
+-- the first, if the test holds; otherwise the other
+abbrev pub firstIf : {A : Type 0} → Bool → A → Option A → Option A
+firstIf true a other = some a
+firstIf false a other = other
+
+-- what stands beside the number n in a table; none, if no row has that number
+abbrev pub lookUp : {A : Type 0} → ℕ → List (ℕ × A) → Option A
+lookUp n [] = none
+lookUp n (row ∷ rows) = firstIf (eqb n (row .0)) (row .1) (lookUp n rows)
+
+module _ {E : Type 0} (C : Codec E) where
+  -- the fields that bytes hold, and the bytes of fields
+  abbrev pub fieldsIn : List ℕ → List ℕ
+  fieldsIn s = split (C .widths) (join (bytes (C .size)) s)
+
+  unfoldable pub bytesOf : List ℕ → List ℕ
+  bytesOf xs = split (bytes (C .size)) (join (C .widths) xs)
+
+  -- a claimed thing stands if the fields are just its own, so that each field which its case does not name is 0
+  abbrev pub checked : Option E → List ℕ → Option E
+  checked none l = none
+  checked (some e) l = onlyIf (equal (C .code e) l && C .admitted e) (some e)
+
+  unfoldable pub thingOf : List ℕ → Option E
+  thingOf l = checked (C .claimed l) l
+
+  -- WHAT BYTES UNPACK TO. Another length, an unknown number of a case, a nonzero unused bit or field, a value not admitted: nothing
+  unfoldable pub unpackOf : List ℕ → Option E
+  unpackOf s = onlyIf (eqb (length s) (C .size)) (thingOf (fieldsIn s))
+
+  -- a thing packs if each of its fields fits its width and it is admitted
+  unfoldable pub packs : E → Bool
+  packs e = allFit (C .widths) (C .code e) && C .admitted e
+
+  -- WHAT A THING PACKS TO
+  unfoldable pub packOf : E → Option (List ℕ)
+  packOf e = onlyIf (packs e) (some (bytesOf (C .code e)))

@@ -1,0 +1,204 @@
+// Messages: 11 bytes each.
+ghost use mathlib.Core.Path.{_≡_};
+ghost use Prim.Native.Nat.{_≤_};
+ghost use lib.ListN.{length, take};
+ghost use Rattle.packing.specs.Codec.{lookUp, fieldsIn, bytesOf, thingOf, unpackOf, packOf};
+ghost use Rattle.packing.specs.Message.{messages, termsCode, codeOf, kinds, claimedBy, messageAt, unpacked, packed};
+
+// What a quote or an order says.
+pub struct Terms {
+    pub party: u32,
+    pub sell: bool,
+    pub price: u32,
+    pub quantity: u32,
+}
+
+// What a message says: one case for each kind, in the order of the kinds' numbers 1 to 12. The numbers are as the message holds
+// them: whether they are in range is not asked here.
+pub enum Event {
+    Plain(Terms),
+    Mmlo(Terms),
+    Mmalo(Terms),
+    Mmrp(Terms),
+    Displayed(Terms),
+    Dark(Terms),
+    CancelEntry { party: u32, entry: u32 },
+    CancelQuote { party: u32, sell: bool },
+    Away { bid: u32, offer: u32 },
+    Underlying { price: u32 },
+    Phase { phase: u32 },
+    Enable { party: u32 },
+}
+
+pub enum Unpacked {
+    Message(Event),
+    Nothing,
+}
+
+pub struct Packed {
+    pub ok: bool,
+    pub bytes: [u8; SIZE],
+}
+
+// How many bytes one has.
+const SIZE: usize = 11;
+
+// The widths of the fields, in bits: kind, party, side, price, quantity, second price, entry, zero bits.
+const WIDTHS: [u8; 8] = [4, 7, 1, 17, 17, 17, 20, 5];
+
+fn read(s: &[u8]) -> [u32; 8]
+    requires { ⌜ messages .size ≤ length (now s) ⌝ }
+    ensures { λ r. ⌜ r ≡ fieldsIn messages (now (s .entry)) ⌝ }
+{
+    let mut xs = [0u32; 8];
+    let ws = WIDTHS;
+    bits::reader::read_all(s, SIZE, &ws, &mut xs);
+    xs
+}
+
+fn write(xs: [u32; 8]) -> [u8; SIZE]
+    ensures { λ r. ⌜ r ≡ bytesOf messages xs ⌝ }
+{
+    let mut out = [0u8; SIZE];
+    let ws = WIDTHS;
+    bits::writer::write_all(&mut out, &ws, &xs);
+    out
+}
+
+fn terms_code(kind: u32, t: Terms) -> [u32; 8]
+    ensures { λ r. ⌜ r ≡ termsCode kind t ⌝ }
+{
+    [kind, t.party, t.sell as u32, t.price, t.quantity, 0, 0, 0]
+}
+
+// The kind's number, the fields that the kind names, and 0 in the others.
+fn code(e: Event) -> [u32; 8]
+    ensures { λ r. ⌜ r ≡ codeOf e ⌝ }
+{
+    match e {
+        Event::Plain(t) => terms_code(1, t),
+        Event::Mmlo(t) => terms_code(2, t),
+        Event::Mmalo(t) => terms_code(3, t),
+        Event::Mmrp(t) => terms_code(4, t),
+        Event::Displayed(t) => terms_code(5, t),
+        Event::Dark(t) => terms_code(6, t),
+        Event::CancelEntry { party, entry } => [7, party, 0, 0, 0, 0, entry, 0],
+        Event::CancelQuote { party, sell } => [8, party, sell as u32, 0, 0, 0, 0, 0],
+        Event::Away { bid, offer } => [9, 0, 0, bid, 0, offer, 0, 0],
+        Event::Underlying { price } => [10, 0, 0, price, 0, 0, 0, 0],
+        Event::Phase { phase } => [11, 0, 0, 0, phase, 0, 0, 0],
+        Event::Enable { party } => [12, party, 0, 0, 0, 0, 0, 0],
+    }
+}
+
+// The event of a kind, from the fields that the kind names.
+fn event_by(kind: u32, t: Terms, second: u32, entry: u32) -> Unpacked
+    ensures { λ r. ⌜ r ≡ unpacked (lookUp kind (kinds t second entry)) ⌝ }
+{
+    let party = t.party;
+    let sell = t.sell;
+    let price = t.price;
+    let quantity = t.quantity;
+    match kind {
+        1 => Unpacked::Message(Event::Plain(t)),
+        2 => Unpacked::Message(Event::Mmlo(t)),
+        3 => Unpacked::Message(Event::Mmalo(t)),
+        4 => Unpacked::Message(Event::Mmrp(t)),
+        5 => Unpacked::Message(Event::Displayed(t)),
+        6 => Unpacked::Message(Event::Dark(t)),
+        7 => Unpacked::Message(Event::CancelEntry { party, entry }),
+        8 => Unpacked::Message(Event::CancelQuote { party, sell }),
+        9 => Unpacked::Message(Event::Away {
+            bid: price,
+            offer: second,
+        }),
+        10 => Unpacked::Message(Event::Underlying { price }),
+        11 => Unpacked::Message(Event::Phase { phase: quantity }),
+        12 => Unpacked::Message(Event::Enable { party }),
+        _ => Unpacked::Nothing,
+    }
+}
+
+fn claimed(xs: [u32; 8]) -> Unpacked
+    ensures { λ r. ⌜ r ≡ unpacked (claimedBy xs) ⌝ }
+{
+    let kind = xs[0];
+    let party = xs[1];
+    let sell = xs[2] == 1;
+    let price = xs[3];
+    let quantity = xs[4];
+    let second = xs[5];
+    let entry = xs[6];
+    let t = Terms {
+        party,
+        sell,
+        price,
+        quantity,
+    };
+    event_by(kind, t, second, entry)
+}
+
+// The event that the fields say, if they are just its fields.
+fn event_of(xs: [u32; 8]) -> Unpacked
+    ensures { λ r. ⌜ r ≡ unpacked (thingOf messages xs) ⌝ }
+{
+    let found = claimed(xs);
+    let Unpacked::Message(e) = found else {
+        return Unpacked::Nothing;
+    };
+    let ys = code(e);
+    if bits::tests::same(&ys, &xs) {
+        Unpacked::Message(e)
+    } else {
+        Unpacked::Nothing
+    }
+}
+
+// The event of the first 11 bytes.
+fn unpack_front(s: &[u8]) -> Unpacked
+    ensures { λ r. ⌜ r ≡ unpacked (unpackOf messages (take (messages .size) (now (s .entry)))) ⌝ }
+{
+    if s.len() < SIZE {
+        return Unpacked::Nothing;
+    }
+    let xs = read(s);
+    event_of(xs)
+}
+
+pub fn unpack(bytes: &[u8]) -> Unpacked
+    ensures { λ r. ⌜ r ≡ unpacked (unpackOf messages (now (bytes .entry))) ⌝ }
+{
+    if bytes.len() == SIZE {
+        unpack_front(bytes)
+    } else {
+        Unpacked::Nothing
+    }
+}
+
+// The event of the message that stands at a place of a run. The run's part from there on is handed on, and nothing is copied out.
+pub fn unpack_at(run: &[u8], at: usize) -> Unpacked
+    ensures { λ r. ⌜ r ≡ unpacked (unpackOf messages (messageAt (now (run .entry)) at)) ⌝ }
+{
+    if at <= run.len() {
+        unpack_front(&run[at..])
+    } else {
+        Unpacked::Nothing
+    }
+}
+
+// The 11 bytes of an event; no bytes for one of which a field does not fit.
+pub fn pack(event: Event) -> Packed
+    ensures { λ r. ⌜ r ≡ packed (packOf messages event) ⌝ }
+{
+    let xs = code(event);
+    let ws = WIDTHS;
+    if bits::tests::fits(&ws, &xs) {
+        let bytes = write(xs);
+        Packed { ok: true, bytes }
+    } else {
+        Packed {
+            ok: false,
+            bytes: [0u8; SIZE],
+        }
+    }
+}

@@ -1,0 +1,47 @@
+// The room that a caller lends for reports.
+ghost use mathlib.Core.Path.{_≡_};
+ghost use Prim.Native.Nat.{_+_, _*_, _≤_, _<_};
+ghost use lib.ListN.{length};
+ghost use lib.Seq.{sets};
+ghost use Rattle.packing.specs.Room.{isPut, roomAfter};
+use crate::report::Report;
+
+// Stores the bytes of `part` from `start` on.
+fn store(room: &mut [u8], start: usize, part: &[u8])
+    requires { ⌜ start + length (now part) ≤ length (now room) ⌝ }
+    ensures { λ _. ⌜ now (room .exit) ≡ sets (now (room .entry)) start (now (part .entry)) ⌝ }
+{
+    let mut i = 0;
+    while i < part.len() {
+        room[start + i] = part[i];
+        i += 1;
+    }
+}
+
+// The first byte of place `at`.
+fn start_of(at: usize) -> usize
+    requires { ⌜ 14 * at < 18446744073709551615 ⌝ }
+    ensures { λ r. ⌜ r ≡ 14 * at ⌝ }
+{
+    14 * at
+}
+
+// Writes a report as number `at` of the room, counted from 0. Answers false, and leaves the room as it was, where that place is not
+// wholly in the room or a field does not fit.
+pub fn put_report(room: &mut [u8], at: usize, report: Report) -> bool
+    ensures { λ r. ⌜ (r ≡ isPut (now (room .entry)) at report) × (now (room .exit) ≡ roomAfter (now (room .entry)) at report) ⌝ }
+{
+    if room.len() / 14 <= at {
+        return false;
+    }
+    let packed = crate::report::pack(report);
+    let ok = packed.ok;
+    let bytes = packed.bytes;
+    if ok {
+        let start = start_of(at);
+        store(room, start, &bytes);
+        true
+    } else {
+        false
+    }
+}

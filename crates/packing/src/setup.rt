@@ -1,0 +1,116 @@
+// Setup: 4 bytes that say what series it is.
+ghost use mathlib.Core.Path.{_≡_};
+ghost use Prim.Native.Nat.{_≤_};
+ghost use lib.ListN.{length};
+ghost use Rattle.packing.specs.Codec.{fieldsIn, bytesOf, thingOf, unpackOf, packOf};
+ghost use Rattle.packing.specs.Setup.{setups, codeOf, legal, unpacked, packed};
+
+pub struct Setup {
+    pub put: bool,
+    pub exempt: bool,
+    pub m: u32,
+    pub k: u32,
+    pub strike: u32,
+}
+
+pub enum Unpacked {
+    Series(Setup),
+    Nothing,
+}
+
+pub struct Packed {
+    pub ok: bool,
+    pub bytes: [u8; SIZE],
+}
+
+// How many bytes one has.
+const SIZE: usize = 4;
+
+// The widths of the fields, in bits: put, exempt, M, K, strike, zero bits.
+const WIDTHS: [u8; 6] = [1, 1, 4, 7, 17, 2];
+
+fn read(s: &[u8]) -> [u32; 6]
+    requires { ⌜ setups .size ≤ length (now s) ⌝ }
+    ensures { λ r. ⌜ r ≡ fieldsIn setups (now (s .entry)) ⌝ }
+{
+    let mut xs = [0u32; 6];
+    let ws = WIDTHS;
+    bits::reader::read_all(s, SIZE, &ws, &mut xs);
+    xs
+}
+
+fn write(xs: [u32; 6]) -> [u8; SIZE]
+    ensures { λ r. ⌜ r ≡ bytesOf setups xs ⌝ }
+{
+    let mut out = [0u8; SIZE];
+    let ws = WIDTHS;
+    bits::writer::write_all(&mut out, &ws, &xs);
+    out
+}
+
+fn code(s: Setup) -> [u32; 6]
+    ensures { λ r. ⌜ r ≡ codeOf s ⌝ }
+{
+    [s.put as u32, s.exempt as u32, s.m, s.k, s.strike, 0]
+}
+
+fn is_legal(s: Setup) -> bool
+    ensures { λ r. ⌜ r ≡ legal s ⌝ }
+{
+    ((s.m == 1) | ((s.m == 5) | (s.m == 10)))
+        & ((s.k <= 100) & ((1 <= s.strike) & (s.strike <= 100000)))
+}
+
+// The setup that the fields say, if they are just its fields and its values are legal.
+fn setup_of(xs: [u32; 6]) -> Unpacked
+    ensures { λ r. ⌜ r ≡ unpacked (thingOf setups xs) ⌝ }
+{
+    let put = xs[0] == 1;
+    let exempt = xs[1] == 1;
+    let m = xs[2];
+    let k = xs[3];
+    let strike = xs[4];
+    let s = Setup {
+        put,
+        exempt,
+        m,
+        k,
+        strike,
+    };
+    let ys = code(s);
+    let same = bits::tests::same(&ys, &xs);
+    if same & is_legal(s) {
+        Unpacked::Series(s)
+    } else {
+        Unpacked::Nothing
+    }
+}
+
+pub fn unpack(bytes: &[u8]) -> Unpacked
+    ensures { λ r. ⌜ r ≡ unpacked (unpackOf setups (now (bytes .entry))) ⌝ }
+{
+    if bytes.len() == SIZE {
+        let xs = read(bytes);
+        setup_of(xs)
+    } else {
+        Unpacked::Nothing
+    }
+}
+
+// The 4 bytes of a setup; no bytes for one that is not legal.
+pub fn pack(setup: Setup) -> Packed
+    ensures { λ r. ⌜ r ≡ packed (packOf setups setup) ⌝ }
+{
+    let xs = code(setup);
+    let ws = WIDTHS;
+    let fits = bits::tests::fits(&ws, &xs);
+    if fits & is_legal(setup) {
+        let bytes = write(xs);
+        Packed { ok: true, bytes }
+    } else {
+        Packed {
+            ok: false,
+            bytes: [0u8; SIZE],
+        }
+    }
+}
