@@ -1,0 +1,3 @@
+pub mod ShapeLaws
+pub mod ChangeLaws
+pub mod LookLaws

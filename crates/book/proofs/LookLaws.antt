@@ -1,0 +1,107 @@
+-- What the searches find, with no scan in it: the place is pinned, and nothing else fits.
+-- Assumes nothing.
+use Prim.Native.Nat.{ℕ, _+_, _*_, _≤_, _<_}
+use mathlib.Core.Path.{_≡_, refl, sym, ap}
+use mathlib.Core.Bool.{Bool, true, false, cond, not, _&&_, _||_}
+use mathlib.Core.List.{List}
+use native.Mathlib.Omega.{arith}
+use lib.Dec.{eqb, ltb}
+use lib.ListN.{length, getD}
+use borrow.Author.Tests.{lt-ltb, ltb-true, ltb-false}
+use Rattle.lists.specs.Places.{At}
+use Rattle.lists.specs.Choose.{Found, nowhere, found, first, lesser, keyed}
+use Rattle.lists.proofs.ChooseLaws.{Nobody, Chosen, Tells, first-tells}
+use Rattle.lists.proofs.LoopLaws.{Held, nothing, something, Lowering, lower-taken, lower-kept}
+use Rattle.lists.proofs.Bools.{clash}
+use Rattle.book.specs.declared.Entry.{Entry}
+use Rattle.book.specs.declared.Least.{Least}
+use Rattle.book.specs.Entries.{displayed, own, quoteOf}
+use Rattle.book.specs.Look.{rankOf, rankHeld, lower, cost, priority, eligible, bestContra, entryOf, quoteIn, lowest}
+
+-- THE BEST CONTRA ENTRY has the best price of all that are eligible; of those at its price none is displayed unless it is; and of those that
+-- are displayed as it is, none is older.
+pub record BestContra (s shownOnly : Bool) (l : List Entry) (i : ℕ) (e : Entry) : Type 0 where
+  pub chosen : Chosen (eligible s shownOnly) (priority s) l i e
+  pub price : (k : ℕ) (z : Entry) → At l k z → eligible s shownOnly z ≡ true → cost s (e .working) ≤ cost s (z .working)
+  pub shown : (k : ℕ) (z : Entry) → At l k z → eligible s shownOnly z ≡ true → cost s (z .working) ≡ cost s (e .working)
+      → displayed z ≡ true → displayed e ≡ true
+  pub rank : (k : ℕ) (z : Entry) → At l k z → eligible s shownOnly z ≡ true → cost s (z .working) ≡ cost s (e .working)
+      → displayed z ≡ displayed e → i ≤ k
+
+-- an answer that says so, or that nobody is eligible
+abbrev pub ContraTells : Bool → Bool → List Entry → Found Entry → Type 0
+ContraTells s shownOnly l nowhere = Nobody (eligible s shownOnly) l
+ContraTells s shownOnly l (found i e) = BestContra s shownOnly l i e
+
+module _ (s shownOnly : Bool) (l : List Entry) where
+  best-of : (i : ℕ) (e : Entry) → Chosen (eligible s shownOnly) (priority s) l i e → BestContra s shownOnly l i e
+  unfolding priority
+  best-of i e c = record {
+    chosen = c;
+    price = λ k z a t. cheaper (displayed e) (displayed z) (c .least k z a t);
+    shown = λ k z a t same d. shows (displayed e) (displayed z) same d (c .least k z a t);
+    rank = λ k z a t same d. older k z a t same d (ltb k i) refl;
+  }
+    where
+      cheaper : {x y : ℕ} (b d : Bool) → 2 * x + cond b 0 1 ≤ 2 * y + cond d 0 1 → x ≤ y
+      cheaper true true h = omega arith
+      cheaper true false h = omega arith
+      cheaper false true h = omega arith
+      cheaper false false h = omega arith
+
+      shows : {x y : ℕ} (b d : Bool) → y ≡ x → d ≡ true → 2 * x + cond b 0 1 ≤ 2 * y + cond d 0 1 → b ≡ true
+      shows true d same e h = refl
+      shows false true same e h = absurd (omega arith)
+      shows false false same e h = e
+
+      level : {x y : ℕ} (b d : Bool) → y ≡ x → d ≡ b → 2 * x + cond b 0 1 < 2 * y + cond d 0 1 → ⊥
+      level true true same e h = omega arith
+      level true false same e h = clash e refl
+      level false true same e h = clash refl e
+      level false false same e h = omega arith
+
+      older : (k : ℕ) (z : Entry) → At l k z → eligible s shownOnly z ≡ true → cost s (z .working) ≡ cost s (e .working)
+          → displayed z ≡ displayed e → (t : Bool) → ltb k i ≡ t → i ≤ k
+      older k z a t same d true q = absurd (level (displayed e) (displayed z) same d (c .earliest k z a t (ltb-true k i q)))
+      older k z a t same d false q = ltb-false k i q
+
+  says : (f : Found Entry) → Tells (eligible s shownOnly) (priority s) l f → ContraTells s shownOnly l f
+  says nowhere h = h
+  says (found i e) h = best-of i e h
+
+  pub contra-tells : ContraTells s shownOnly l (bestContra s shownOnly l)
+  unfolding bestContra
+  contra-tells = says (first (eligible s shownOnly) (lesser (priority s)) l) (first-tells (eligible s shownOnly) (priority s) l)
+
+-- A PARTY'S ENTRY, A MAKER'S QUOTE: the oldest that is so, of which in a sound book there is one at most
+module _ (l : List Entry) where
+  pub entry-tells : (party number : ℕ) → Tells (own party number) (λ _. 0) l (entryOf party number l)
+  unfolding entryOf
+  entry-tells party number = first-tells (own party number) (λ _. 0) l
+
+  pub quote-tells : (party : ℕ) (s : Bool) → Tells (quoteOf party s) (λ _. 0) l (quoteIn party s l)
+  unfolding quoteIn
+  quote-tells party s = first-tells (quoteOf party s) (λ _. 0) l
+
+  -- THE FIRST BY ENTRY NUMBER of those that pass
+  pub lowest-tells : (test : Entry → Bool) → Tells test (λ (e : Entry). e .number) l (lowest test l)
+  unfolding lowest
+  lowest-tells test = first-tells test (λ (e : Entry). e .number) l
+
+-- what a scan holds at its end is the rank it answers
+pub held-rank : {key : Entry → ℕ} {f : Found Entry} {k at : ℕ} → Held 1099511627776 key f k at → rankHeld (record { key = k; at = at }) ≡ rankOf f
+held-rank nothing = refl
+held-rank {key} (something {i = i} {x = x} l) = rw (lt-ltb (key x) 1099511627776 l)
+
+-- the turn of a scan, as its loop has it
+pub lower-turn : {key : Entry → ℕ} {test : Entry → Bool} {es : List Entry} {n i : ℕ} (held : Least) (d : Entry) (t : Least)
+    → Lowering 1099511627776 test key es n (held .key) (held .at) i → n ≤ length es → i < n
+    → (test (getD es i d) ≡ true → key (getD es i d) < 1099511627776) → t ≡ lower held i (keyed 1099511627776 test key (getD es i d))
+    → Lowering 1099511627776 test key es n (t .key) (t .at) (i + 1)
+lower-turn {key} {test} {es} {n} {i} held d t v fits inside small e = rw e (go (ltb (keyed 1099511627776 test key (getD es i d)) (held .key)) refl)
+  where
+    go : (b : Bool) → ltb (keyed 1099511627776 test key (getD es i d)) (held .key) ≡ b
+        → Lowering 1099511627776 test key es n ((cond b (record { key = keyed 1099511627776 test key (getD es i d); at = i }) held) .key)
+        ((cond b (record { key = keyed 1099511627776 test key (getD es i d); at = i }) held) .at) (i + 1)
+    go true q = lower-taken d v fits inside small (ltb-true (keyed 1099511627776 test key (getD es i d)) (held .key) q)
+    go false q = lower-kept d v fits inside small (ltb-false (keyed 1099511627776 test key (getD es i d)) (held .key) q)

@@ -1,0 +1,34 @@
+use Rattle.book.proofs.ChangeLaws.{length-hit, hit-fits}
+use Rattle.book.proofs.ShapeLaws.{length-entries, holds}
+use Rattle.book.specs.Change.{hitBoth}
+use Rattle.book.specs.Shape.{entriesOf}
+use borrow.Author.Tests.{lt-ltb, le-ltb}
+use native.Mathlib.Omega.{arith}
+use borrow.Author.Needs.{needs}
+use Rattle.book.proofs.change.traded.Statement.{statement}
+use Rattle.book.proofs.change.traded.Tie as tie
+
+taken-requires : tie.Need-taken-requires
+taken-requires c κs = search needs
+
+taken-requires-2 : tie.Need-taken-requires-2
+taken-requires-2 c κs = let s = c .before .before in let d = holds (c .taken .ensures) (hit-fits (s .args .b) (s .args .j) (s .args .quantity) (s .pre .well)) in record { well = d .well; inside = omega (arith, d .size, length-hit (s .args .j) (s .args .quantity) (entriesOf (s .args .b)), length-entries (s .args .b) (s .pre .well), s .pre .two) }
+
+returns : tie.Need-returns
+unfolding hitBoth
+returns c = let s = c .before .before .before in let d = holds (c .before .taken .ensures) (hit-fits (s .args .b) (s .args .j) (s .args .quantity) (s .pre .well)) in rw (lt-ltb _ _ (c .before .before .if1 .taken), ← d .list) (c .taken2 .ensures)
+
+taken-requires-3 : tie.Need-taken-requires-3
+taken-requires-3 c κs = search needs
+
+taken-requires-4 : tie.Need-taken-requires-4
+taken-requires-4 c κs = let s = c .before .before in let d = holds (c .taken3 .ensures) (hit-fits (s .args .b) (s .args .i) (s .args .quantity) (s .pre .well)) in record { well = d .well; inside = omega (arith, d .size, length-hit (s .args .i) (s .args .quantity) (entriesOf (s .args .b)), length-entries (s .args .b) (s .pre .well), s .pre .one, s .pre .apart, c .before .if1 .left) }
+
+returns-2 : tie.Need-returns-2
+unfolding hitBoth
+returns-2 c = let s = c .before .before .before in let d = holds (c .before .taken3 .ensures) (hit-fits (s .args .b) (s .args .i) (s .args .quantity) (s .pre .well)) in rw (le-ltb _ _ (c .before .before .if1 .left), ← d .list) (c .taken4 .ensures)
+
+pub traded-spec : {M : Type 1} → statement M
+traded-spec =
+    tie.close
+    (tie.spec taken-requires taken-requires-2 returns taken-requires-3 taken-requires-4 returns-2)

@@ -1,0 +1,61 @@
+use Rattle.book.specs.Look.{rankOf, quoteIn}
+use Rattle.book.specs.Shape.{zeroEntry, entriesOf}
+use Rattle.book.specs.Entries.{quoteOf}
+use Rattle.lists.proofs.LoopLaws.{Searching, scan-start, search-past, search-hit, search-none}
+use native.Mathlib.Omega.{arith}
+use mathlib.Core.Path.{sym, ap, _∙_}
+use Prim.Native.Nat.{_-_}
+use borrow.Author.Needs.{needs}
+use Rattle.book.proofs.find.find_quote.Statement.{statement}
+use Rattle.book.proofs.find.find_quote.Tie as tie
+
+abbrev Inv-loop : tie.InvT-loop
+Inv-loop party sell b n i₀ i = Searching (quoteOf party sell) (b .entries) n i
+
+abbrev μ-loop : tie.MeasureT-loop
+μ-loop party sell b n i₀ i = n - i
+
+loop-holds : tie.Need-loop-holds Inv-loop μ-loop
+loop-holds c = scan-start
+
+mul-is-quote-of : tie.Need-mul-is-quote-of Inv-loop μ-loop
+mul-is-quote-of c = search needs
+
+element-copy-out-is-quote-of : tie.Need-element-copy-out-is-quote-of Inv-loop μ-loop
+element-copy-out-is-quote-of c = omega (arith, c .before .before .pre .places, c .before .before .pre .few)
+
+is-quote-of-requires : tie.Need-is-quote-of-requires Inv-loop μ-loop
+is-quote-of-requires c κs = search needs
+
+returns : tie.Need-returns Inv-loop μ-loop
+unfolding quoteIn entriesOf
+returns c = let s = c .before .before .before .before .before in ap rankOf (search-hit (quoteOf (s .args .party) (s .args .sell)) (s .args .t1 .entries) (s .args .t1 .count) (c .before .before .before .before .loop .i) zeroEntry (c .before .before .before .before .loop .inv) (omega (arith, s .pre .few, s .pre .places)) (c .before .before .before .loop-test .taken) (sym (c .before .is-quote-of .ensures) ∙ c .if1 .taken))
+
+add-i : tie.Need-add-i Inv-loop μ-loop
+add-i c = search needs
+
+loop-less : tie.Need-loop-less Inv-loop μ-loop
+loop-less c = search needs
+
+loop-again : tie.Need-loop-again Inv-loop μ-loop
+loop-again c = let s = c .before .before .before .before .before in search-past (quoteOf (s .args .party) (s .args .sell)) (s .args .t1 .entries) (s .args .t1 .count) (c .before .before .before .before .loop .i) zeroEntry (c .before .before .before .before .loop .inv) (omega (arith, s .pre .few, s .pre .places)) (c .before .before .before .loop-test .taken) (sym (c .before .is-quote-of .ensures) ∙ c .if1 .left)
+
+returns-2 : tie.Need-returns-2 Inv-loop μ-loop
+unfolding quoteIn entriesOf
+returns-2 c = let s = c .before .before in ap rankOf (search-none (quoteOf (s .args .party) (s .args .sell)) (s .args .t1 .entries) (s .args .t1 .count) (c .before .loop .i) (c .before .loop .inv) (c .loop-test .left))
+
+pub find-quote-spec : {M : Type 1} → statement M
+find-quote-spec =
+    tie.close
+    (tie.spec
+    Inv-loop
+    μ-loop
+    loop-holds
+    mul-is-quote-of
+    element-copy-out-is-quote-of
+    is-quote-of-requires
+    returns
+    add-i
+    loop-less
+    loop-again
+    returns-2)

@@ -1,0 +1,71 @@
+-- One entry: what it shows, and what it is.
+-- Assumes nothing.
+use Prim.Native.Nat.{ℕ, _-_}
+use mathlib.Core.Bool.{Bool, true, false, not, _&&_, Bool·beq}
+use lib.Dec.{eqb, leb}
+use Rattle.prices.specs.declared.Prices.{Prices}
+use Rattle.book.specs.declared.Entry.{Entry}
+use Rattle.book.specs.declared.Pricing.{Pricing}
+use Rattle.book.specs.declared.Pricing.the-variants.{Fixed, Dark, Sliding}
+
+-- the display price; "a report shows display 0 for a dark entry"
+abbrev pub shownAs : ℕ → Pricing → ℕ
+shownAs limit Fixed = limit
+shownAs limit Dark = 0
+shownAs limit (Sliding d) = d
+
+abbrev pub display : Entry → ℕ
+display e = shownAs (e .limit) (e .pricing)
+
+-- "An entry is displayed interest if display equals working price."
+abbrev pub displayed : Entry → Bool
+displayed e = eqb (display e) (e .working)
+
+-- it slides: it "carries a display price apart from its limit"
+abbrev pub slidesAs : Pricing → Bool
+slidesAs Fixed = false
+slidesAs Dark = false
+slidesAs (Sliding d) = true
+
+abbrev pub isSliding : Entry → Bool
+isSliding e = slidesAs (e .pricing)
+
+-- kinds 1 to 4 are quotes
+abbrev pub quote : Entry → Bool
+quote e = leb (e .kind) 4
+
+-- an entry on the side that a taker of side s trades with
+abbrev pub against : Bool → Entry → Bool
+against s e = Bool·beq (e .sell) (not s)
+
+-- "cancel own entry", "cancel own quote": what a message names
+abbrev pub own : ℕ → ℕ → Entry → Bool
+own party number e = eqb (e .number) number && eqb (e .party) party
+
+abbrev pub quoteOf : ℕ → Bool → Entry → Bool
+quoteOf party s e = quote e && (eqb (e .party) party && Bool·beq (e .sell) s)
+
+-- the entry with q contracts less, and at other prices
+abbrev pub lessened : ℕ → Entry → Entry
+lessened q e = record {
+  number = e .number;
+  party = e .party;
+  kind = e .kind;
+  sell = e .sell;
+  limit = e .limit;
+  quantity = e .quantity - q;
+  working = e .working;
+  pricing = e .pricing;
+}
+
+abbrev pub priced : Prices → Entry → Entry
+priced p e = record {
+  number = e .number;
+  party = e .party;
+  kind = e .kind;
+  sell = e .sell;
+  limit = e .limit;
+  quantity = e .quantity;
+  working = p .working;
+  pricing = Sliding (p .display);
+}

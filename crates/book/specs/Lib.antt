@@ -1,0 +1,4 @@
+pub mod Entries
+pub mod Shape
+pub mod Change
+pub mod Look

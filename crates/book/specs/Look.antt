@@ -1,0 +1,86 @@
+-- Who trades first, and which prices a side faces.
+-- Assumes nothing.
+use Prim.Native.Nat.{ℕ, _+_, _-_, _*_}
+use mathlib.Core.Bool.{Bool, true, false, cond, not, _&&_, _||_}
+use mathlib.Core.List.{List}
+use lib.Dec.{eqb, ltb}
+use Rattle.prices.specs.Side.{reaches, nearer}
+use Rattle.lists.specs.Choose.{scan, Found, nowhere, found, first, lesser, never}
+use Rattle.lists.specs.Tests.{any}
+use Rattle.book.specs.declared.Entry.{Entry}
+use Rattle.book.specs.declared.Least.{Least}
+use Rattle.book.specs.declared.Rank.{Rank}
+use Rattle.book.specs.declared.Rank.the-variants.{At, Nowhere}
+use Rattle.book.specs.Entries.{display, displayed, against, own, quoteOf}
+
+-- the rank at which a search has found an entry
+abbrev pub rankOf : Found Entry → Rank
+rankOf nowhere = Nowhere
+rankOf (found i e) = At i
+
+-- ---- who trades first ----
+
+-- what a price costs a taker, less being better: to a buy the price, to a sell its mirror image
+unfoldable pub cost : Bool → ℕ → ℕ
+cost false p = p
+cost true p = 200000 - p
+
+-- THE PRIORITY. "A taker buy trades at the resting working price, with the lowest first; at one price displayed before undisplayed; then by rank."
+-- The least goes first; among equals the earlier place, which is the older rank
+unfoldable pub priority : Bool → Entry → ℕ
+priority s e = 2 * cost s (e .working) + cond (displayed e) 0 1
+
+-- "MMLO arriving passes over undisplayed interest."
+abbrev pub eligible : Bool → Bool → Entry → Bool
+eligible s shownOnly e = against s e && (not shownOnly || displayed e)
+
+-- the one best contra entry for a taker of side s
+unfoldable pub bestContra : Bool → Bool → List Entry → Found Entry
+bestContra s shownOnly l = first (eligible s shownOnly) (lesser (priority s)) l
+
+-- a turn of a scan for it: a lesser key takes its place
+abbrev pub lower : Least → ℕ → ℕ → Least
+lower held at key = cond (ltb key (held .key)) (record { key = key; at = at }) held
+
+-- 2^40 stands above all keys, for none
+abbrev pub rankHeld : Least → Rank
+rankHeld held = cond (ltb (held .key) 1099511627776) (At (held .at)) Nowhere
+
+-- ---- the prices that a side faces, 0 for none ----
+
+abbrev pub working : Entry → ℕ
+working e = e .working
+
+-- of those that face side s, the nearest price of this kind; a turn, and reading on from q
+abbrev pub facing : (Entry → ℕ) → Bool → ℕ → Entry → ℕ
+facing price s q e = cond (against s e) (nearer s q (price e)) q
+
+unfoldable pub nearest : (Entry → ℕ) → Bool → ℕ → List Entry → ℕ
+nearest price s q l = scan (λ (p : ℕ) (_ : ℕ) (e : Entry). facing price s p e) q 0 l
+
+-- "C the lowest working price of any sell in the book, dark included"
+abbrev pub contra : Bool → List Entry → ℕ
+contra s l = nearest working s 0 l
+
+-- "NBO is the lower of A and the lowest displayed sell price (a sliding entry's display), NBB its mirror."
+abbrev pub national : Bool → ℕ → List Entry → ℕ
+national s a l = nearest display s a l
+
+-- 21: "an undisplayed sell works at L or less"
+abbrev pub hidden : Bool → ℕ → Entry → Bool
+hidden s limit e = against s e && (not (displayed e) && reaches s limit (e .working))
+
+unfoldable pub hiddenWithin : Bool → ℕ → List Entry → Bool
+hiddenWithin s limit l = any (hidden s limit) l
+
+-- ---- whom a message names ----
+
+unfoldable pub entryOf : ℕ → ℕ → List Entry → Found Entry
+entryOf party number l = first (own party number) never l
+
+unfoldable pub quoteIn : ℕ → Bool → List Entry → Found Entry
+quoteIn party s l = first (quoteOf party s) never l
+
+-- "the first .. by entry number" of those that pass a test
+unfoldable pub lowest : (Entry → Bool) → List Entry → Found Entry
+lowest test l = first test (lesser (λ (e : Entry). e .number)) l

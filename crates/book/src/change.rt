@@ -1,0 +1,81 @@
+// The operations of the book: what each does to the list of entries in rank order.
+use crate::Book;
+use crate::Entry;
+use crate::entries::zero_entry;
+ghost use mathlib.Core.Path.{_≡_};
+ghost use mathlib.Core.List.{[]};
+ghost use Rattle.lists.specs.Places.{without, requeue};
+ghost use Rattle.book.specs.Shape.{entriesOf, bookOf, WellFormed, Place, TwoPlaces, Space};
+ghost use Rattle.book.specs.Change.{post, hit, hitBoth};
+
+pub fn empty() -> Book
+    ensures { λ r. ⌜ r ≡ bookOf [] ⌝ }
+{
+    let unused = zero_entry();
+    let entries = [unused; 64];
+    Book { entries, count: 0 }
+}
+
+// The entry rests, last in rank.
+pub fn posted(mut b: Book, e: Entry) -> Book
+    requires { ⌜ Space b ⌝ }
+    ensures { λ r. ⌜ r ≡ bookOf (post e (entriesOf b)) ⌝ }
+{
+    let at = b.count;
+    b.entries[at] = e;
+    b.count = at + 1;
+    b
+}
+
+// The entry at a place gives way to another, which rests last in rank.
+pub fn requeued(mut b: Book, i: usize, e: Entry) -> Book
+    requires { ⌜ Place b i ⌝ }
+    ensures { λ r. ⌜ r ≡ bookOf (requeue i e (entriesOf b)) ⌝ }
+{
+    let last = b.count - 1;
+    let mut j = i;
+    while j < last {
+        let x = b.entries[j + 1];
+        b.entries[j] = x;
+        j += 1;
+    }
+    b.entries[last] = e;
+    b
+}
+
+// The entry at a place goes: the zero entry takes its turn, and no longer counts.
+pub fn removed(b: Book, i: usize) -> Book
+    requires { ⌜ Place b i ⌝ }
+    ensures { λ r. ⌜ r ≡ bookOf (without i (entriesOf b)) ⌝ }
+{
+    let unused = zero_entry();
+    let mut c = requeued(b, i, unused);
+    c.count = c.count - 1;
+    c
+}
+
+// So many contracts of the entry at a place are traded away.
+pub fn taken(mut b: Book, i: usize, quantity: u32) -> Book
+    requires { ⌜ Place b i ⌝ }
+    ensures { λ r. ⌜ r ≡ bookOf (hit i quantity (entriesOf b)) ⌝ }
+{
+    let rests = b.entries[i].quantity;
+    if rests <= quantity {
+        return removed(b, i);
+    }
+    b.entries[i].quantity = rests - quantity;
+    b
+}
+
+// Of both parties to a trade.
+pub fn traded(b: Book, i: usize, j: usize, quantity: u32) -> Book
+    requires { ⌜ TwoPlaces b i j ⌝ }
+    ensures { λ r. ⌜ r ≡ bookOf (hitBoth i j quantity (entriesOf b)) ⌝ }
+{
+    if i < j {
+        let c = taken(b, j, quantity);
+        return taken(c, i, quantity);
+    }
+    let c = taken(b, i, quantity);
+    taken(c, j, quantity)
+}

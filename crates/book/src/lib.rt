@@ -1,0 +1,45 @@
+// The book: resting entries in rank order, oldest first. Rank is position: posting appends, a change of either price takes the entry out
+// and appends it, removal closes the gap.
+pub mod change;
+pub mod entries;
+pub mod find;
+pub mod look;
+
+// How an entry is priced. `Fixed` comes first, so that an unused place of the book is all zero.
+pub enum Pricing {
+    // displays and works at its limit
+    Fixed,
+    // works at its limit, and is not shown
+    Dark,
+    // shows this price, which may be another than it works at
+    Sliding(u32),
+}
+
+pub struct Entry {
+    pub number: u32,
+    pub party: u8,
+    // 1 to 6, as in messages
+    pub kind: u8,
+    pub sell: bool,
+    pub limit: u32,
+    pub quantity: u32,
+    pub working: u32,
+    pub pricing: Pricing,
+}
+
+pub struct Book {
+    pub entries: [Entry; 64],
+    pub count: usize,
+}
+
+// Where in the book an entry stands that was looked for, oldest rank first.
+pub enum Rank {
+    At(usize),
+    Nowhere,
+}
+
+// The least key that a scan has met, and where: 2^40 stands for none.
+pub struct Least {
+    pub key: u64,
+    pub at: usize,
+}

@@ -1,0 +1,171 @@
+// Who trades first, and which prices a side faces.
+use crate::Book;
+use crate::Entry;
+use crate::Least;
+use crate::Rank;
+use crate::entries::display_of;
+use crate::entries::is_against;
+use crate::entries::is_displayed;
+use prices::side::is_reaching;
+use prices::side::nearer_of;
+use prices::step::less;
+ghost use mathlib.Core.Path.{_≡_};
+ghost use mathlib.Core.Bool.{true, cond};
+ghost use Prim.Native.Nat.{_<_};
+ghost use Rattle.book.specs.Shape.{entriesOf, WellFormed};
+ghost use Rattle.book.specs.Look.{cost, priority, eligible, bestContra, rankOf, lower, rankHeld, working, facing, contra, national, hidden, hiddenWithin};
+ghost use Rattle.book.specs.Entries.{display, displayed};
+ghost use Rattle.lists.specs.Choose.{keyed};
+
+// What a price costs a taker: less is better.
+pub fn cost_of(sell: bool, p: u32) -> u32
+    ensures { λ r. ⌜ r ≡ cost sell p ⌝ }
+{
+    if sell { less(200000, p) } else { p }
+}
+
+fn wide(x: u32) -> u64
+    ensures { λ r. ⌜ (r ≡ x) × (r < 4294967296) ⌝ }
+{
+    x as u64
+}
+
+// At one price displayed interest goes before undisplayed.
+fn hidden_of(e: Entry) -> u64
+    ensures { λ r. ⌜ (r ≡ cond (displayed e) 0 1) × (r < 2) ⌝ }
+{
+    if is_displayed(e) { 0 } else { 1 }
+}
+
+// Who trades first: the least.
+pub fn priority_of(sell: bool, e: Entry) -> u64
+    ensures { λ r. ⌜ (r ≡ priority sell e) × (r < 1099511627776) ⌝ }
+{
+    let price = wide(cost_of(sell, e.working));
+    2 * price + hidden_of(e)
+}
+
+pub fn is_eligible(sell: bool, shown: bool, e: Entry) -> bool
+    ensures { λ r. ⌜ r ≡ eligible sell shown e ⌝ }
+{
+    is_against(sell, e) & (!shown | is_displayed(e))
+}
+
+// A turn of a scan for the least key.
+pub fn lower_of(held: Least, at: usize, key: u64) -> Least
+    ensures { λ r. ⌜ r ≡ lower held at key ⌝ }
+{
+    if key < held.key {
+        return Least { key, at };
+    }
+    held
+}
+
+fn contra_key(sell: bool, shown: bool, e: Entry) -> u64
+    ensures { λ r. ⌜ (r ≡ keyed 1099511627776 (eligible sell shown) (priority sell) e) × (eligible sell shown e ≡ true → priority sell e < 1099511627776) ⌝ }
+{
+    if is_eligible(sell, shown, e) {
+        return priority_of(sell, e);
+    }
+    1099511627776
+}
+
+// The one best contra entry for a taker.
+pub fn best_contra(b: Book, sell: bool, shown: bool) -> Rank
+    requires { ⌜ WellFormed b ⌝ }
+    ensures { λ r. ⌜ r ≡ rankOf (bestContra sell shown (entriesOf b)) ⌝ }
+{
+    let n = b.count;
+    let mut held = Least {
+        key: 1099511627776,
+        at: 0,
+    };
+    let mut i = 0usize;
+    while i < n {
+        let key = contra_key(sell, shown, b.entries[i]);
+        held = lower_of(held, i, key);
+        i += 1;
+    }
+    rank_of(held)
+}
+
+// Where the least key was met, if any was.
+pub fn rank_of(held: Least) -> Rank
+    ensures { λ r. ⌜ r ≡ rankHeld held ⌝ }
+{
+    if held.key < 1099511627776 {
+        return Rank::At(held.at);
+    }
+    Rank::Nowhere
+}
+
+// Dark interest counts.
+fn contra_turn(sell: bool, q: u32, e: Entry) -> u32
+    ensures { λ r. ⌜ r ≡ facing working sell q e ⌝ }
+{
+    if is_eligible(sell, false, e) {
+        return nearer_of(sell, q, e.working);
+    }
+    q
+}
+
+// The best working price that a side faces, 0 for none.
+pub fn contra_price(b: Book, sell: bool) -> u32
+    requires { ⌜ WellFormed b ⌝ }
+    ensures { λ r. ⌜ r ≡ contra sell (entriesOf b) ⌝ }
+{
+    let n = b.count;
+    let mut price = 0u32;
+    let mut i = 0usize;
+    while i < n {
+        price = contra_turn(sell, price, b.entries[i]);
+        i += 1;
+    }
+    price
+}
+
+fn national_turn(sell: bool, q: u32, e: Entry) -> u32
+    ensures { λ r. ⌜ r ≡ facing display sell q e ⌝ }
+{
+    if is_against(sell, e) {
+        return nearer_of(sell, q, display_of(e));
+    }
+    q
+}
+
+// NBO for a bid, NBB for an offer: the away price, or a display that is nearer; 0 for none.
+pub fn national_price(b: Book, sell: bool, away: u32) -> u32
+    requires { ⌜ WellFormed b ⌝ }
+    ensures { λ r. ⌜ r ≡ national sell away (entriesOf b) ⌝ }
+{
+    let n = b.count;
+    let mut price = away;
+    let mut i = 0usize;
+    while i < n {
+        price = national_turn(sell, price, b.entries[i]);
+        i += 1;
+    }
+    price
+}
+
+pub fn is_hidden(sell: bool, limit: u32, e: Entry) -> bool
+    ensures { λ r. ⌜ r ≡ hidden sell limit e ⌝ }
+{
+    is_against(sell, e) & (!is_displayed(e) & is_reaching(sell, limit, e.working))
+}
+
+// Whether an undisplayed contra entry works at the limit or better.
+pub fn is_hidden_within(b: Book, sell: bool, limit: u32) -> bool
+    requires { ⌜ WellFormed b ⌝ }
+    ensures { λ r. ⌜ r ≡ hiddenWithin sell limit (entriesOf b) ⌝ }
+{
+    let n = b.count;
+    let mut i = 0usize;
+    while i < n {
+        if is_hidden(sell, limit, b.entries[i]) {
+            return true;
+        }
+        i += 1;
+    }
+    false
+}
