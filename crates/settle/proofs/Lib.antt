@@ -1,0 +1,5 @@
+pub mod RankLaws
+pub mod Looping
+pub mod Judging
+pub mod Turning
+pub mod Whole

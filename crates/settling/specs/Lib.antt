@@ -1,0 +1,3 @@
+pub mod Tell
+pub mod Stage
+pub mod Settle
