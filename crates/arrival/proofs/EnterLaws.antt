@@ -1,0 +1,438 @@
+-- Laws of an arrival as code goes about it: what each of its parts finds, asks and leaves.
+-- Assumes nothing.
+use Prim.Native.Nat.{ℕ, zero, suc, _+_, _≤_, _<_}
+use mathlib.Core.Path.{_≡_, refl, sym, ap, _∙_, subst}
+use mathlib.Core.Bool.{Bool, true, false, cond, not, _&&_, _||_}
+use mathlib.Core.List.{List, [], _∷_, _++_}
+use native.Mathlib.Omega.{arith}
+use lib.Dec.{eqb}
+use lib.ListN.{length}
+use borrow.Author.Tests.{eqb-true}
+use Rattle.prices.specs.declared.Market.{Market}
+use Rattle.prices.specs.declared.Guard.{Guard}
+use Rattle.prices.specs.Side.{away}
+use Rattle.prices.specs.Step.{mpv, given}
+use Rattle.prices.specs.Aims.{minds}
+use Rattle.prices.specs.Protect.{protection, Cents}
+use Rattle.prices.proofs.StepLaws.{Given, given-is, given-none, given-legal, is-legal}
+use Rattle.lists.specs.Tests.{All}
+use Rattle.lists.specs.Run.{Step, stop, go, Ran, still, leading, ran}
+use Rattle.lists.proofs.RunLaws.{run-stop, run-go}
+use Rattle.lists.proofs.Bools.{and-left}
+use Rattle.lists.proofs.TestLaws.{all-map}
+use Rattle.packing.specs.declared.report.Report.{Report}
+use Rattle.packing.specs.Room.{written}
+use Rattle.packing.proofs.RoomLaws.{written-none}
+use Rattle.book.specs.declared.Entry.{Entry}
+use Rattle.book.specs.declared.Book.{Book}
+use Rattle.book.specs.declared.Pricing.{Pricing}
+use Rattle.book.specs.declared.Pricing.the-variants.{Fixed, Dark, Sliding}
+use Rattle.book.specs.Entries.{quote, display, shownAs}
+use Rattle.book.specs.Look.{national}
+use Rattle.book.specs.Shape.{entriesOf, bookOf, WellFormed, Space}
+use Rattle.book.specs.Change.{post}
+use Rattle.book.proofs.ShapeLaws.{length-entries, book-of-entries, entries-of-book, holds}
+use Rattle.book.proofs.ChangeLaws.{post-fits}
+use Rattle.sound.proofs.Facts.{EntryFacts, PricedAs, Sound}
+use Rattle.sound.proofs.FrontLaws.{given-nearest, given-contra}
+use Rattle.settling.specs.Tell.{rejected, traded, rested, cancelled}
+use Rattle.settling.specs.Stage.{soundMarket, Roomy, Staged, andThen}
+use Rattle.settling.proofs.EaseRule.{MarketFacts, market-facts}
+use Rattle.settling.proofs.Settles.{sound-for}
+use Rattle.arrival.specs.declared.Terms.{Terms}
+use Rattle.arrival.specs.declared.take.Trade.{Trade}
+use Rattle.arrival.specs.Terms.{marketOf, guardOf}
+use Rattle.arrival.specs.Cancel.{Asks, cutQuote}
+use Rattle.settling.specs.Stage.{Put}
+use Rattle.arrival.specs.Take.{Taking, bound, nextTake, chances, taken, took}
+use Rattle.arrival.specs.Post.{pricesOf, resting, stopFor, Posts}
+use Rattle.arrival.specs.Arrive.{told, ofQuotes, bothQuotes, rejectedBy, replaced, posted, remainder, cancelledRest, finished, entered, noneTraded, stopsAtOnce, protectionFor, orElse, rejection, arrivedAs, arrived}
+use Rattle.arrival.specs.Asks.{Arriving, Enters, Arrives, Takes, TakesOn, TookAs, takingOf, tradeAs, NextTrade, Rests, Finishes}
+use Rattle.arrival.proofs.StageLaws.{roomy-first, staged-list, staged-then, staged-room, staged-none, staged-as, roomy-as}
+use Rattle.arrival.proofs.TakeLaws.{take-falls, took-length, took-sound}
+use Rattle.arrival.proofs.ArriveKeeps.{goesOn, replaced-stage}
+
+-- ---- the prices of a sound book before a sound market ----
+
+pub posts-of : {top : ℕ} (t : Terms) (e : Entry) (b : Book) → soundMarket (marketOf t) ≡ true → t .k ≤ 100 → WellFormed b → Sound (t .m) top (entriesOf b) → Posts t e b
+unfolding soundMarket
+posts-of t e b market steps w so = record {
+  well = w;
+  steps = steps;
+  bounds = record {
+    step = and-left (mpv (t .m)) (given (t .m) (t .bid) && given (t .m) (t .offer)) market;
+    away = given-is (market-facts (marketOf t) market .given (e .sell));
+    contra = given-is (given-contra (e .sell) so);
+  };
+}
+
+facts-of : {t : Terms} {e : Entry} {l : List Entry} → Arriving t e l → MarketFacts (marketOf t) × Sound (t .m) (t .given) l
+facts-of {t} a = sound-for (record { top = t .given; market = a .market; entries = a .entries })
+
+pub enters-posts : {t : Terms} {e : Entry} {b : Book} → Enters t e b → Posts t e b
+enters-posts {t} {e} {b} n = posts-of t e b (n .arriving .market) (n .arriving .steps) (n .well) (facts-of (n .arriving) .1)
+
+given-high : {m p : ℕ} → Given m p → p ≤ 100000
+given-high {m} {p} g = pick (eqb p 0) refl
+  where
+    pick : (b : Bool) → eqb p 0 ≡ b → p ≤ 100000
+    pick true q = omega (arith, eqb-true p 0 q)
+    pick false q = g .legal q .high
+
+given-display : {m top : ℕ} (x : Entry) → EntryFacts m top x → Given m (display x)
+given-display {m} x f = pick (x .pricing) (f .prices)
+  where
+    pick : (p : Pricing) → PricedAs m (x .kind) (x .sell) (x .limit) (x .working) p → Given m (shownAs (x .limit) p)
+    pick Fixed h = given-legal (f .limit)
+    pick Dark h = given-none
+    pick (Sliding d) h = given-legal (h .slides .shown)
+
+-- ---- price protection ----
+
+module _ {t : Terms} {e : Entry} {b : Book} (n : Enters t e b) where
+  pub national-cents : (k : Market) (a best : ℕ) → k ≡ marketOf t → a ≡ away k (e .sell) → best ≡ national (e .sell) a (entriesOf b) → Cents best (e .limit)
+  national-cents k a best p q r =
+      let f = facts-of (n .arriving) in
+      let g : Given (t .m) (national (e .sell) (away (marketOf t) (e .sell)) (entriesOf b)) =
+      given-nearest display (e .sell) (away (marketOf t) (e .sell)) (entriesOf b) (f .0 .given (e .sell)) (all-map (λ x h. given-display x h) (entriesOf b) (f .1 .entries)) in
+      record { best = rw (r, q, p) (given-high g); limit = is-legal (t .m) (e .limit) (n .arriving .limit) .high }
+
+module _ (t : Terms) (e : Entry) (l : List Entry) where
+  pub protected-order : quote e ≡ false → 0 ≡ protectionFor t e l
+  unfolding protectionFor
+  protected-order q = rw q
+
+  pub protected-quote : (k : Market) (a best : ℕ) (g : Guard) (r : ℕ) → quote e ≡ true → k ≡ marketOf t → a ≡ away k (e .sell) → best ≡ national (e .sell) a l
+      → g ≡ guardOf t → r ≡ protection g (e .sell) best (e .limit) → r ≡ protectionFor t e l
+  unfolding protectionFor
+  protected-quote k a best g r w p q s u v = v ∙ rw (u, s, q, p, w) refl
+
+  -- ---- whether it trades ----
+
+  pub trades-none : minds (e .kind) ≡ true → false ≡ not (noneTraded (took (marketOf t) e l .records))
+  unfolding took still
+  trades-none q = rw q refl
+
+  pub trades-now : (k : Market) (cap : ℕ) (r : Trade) → minds (e .kind) ≡ false → k ≡ marketOf t → cap ≡ bound k e
+      → NextTrade cap e (record { left = e .quantity; book = l }) r → r .going ≡ not (noneTraded (took (marketOf t) e l .records))
+  unfolding took taken still leading
+  trades-now k cap r q p w x = rw (q, ← p, ← w) (pick (r .going) (x .is))
+    where
+      from : Taking
+      from = record { left = e .quantity; book = l }
+
+      pick : (g : Bool) → nextTake cap e from ≡ tradeAs e from g (r .at) (r .entry) (r .quantity) → g ≡ not (noneTraded (ran (nextTake cap e) chances from .records))
+      pick false h = ap (λ (y : Ran Taking Report). not (noneTraded (y .records))) (sym (run-stop (nextTake cap e) chances from h))
+      pick true h =
+          ap (λ (y : Ran Taking Report). not (noneTraded (y .records)))
+          (sym (run-go (nextTake cap e) chances (λ _. Unit {0}) (take-falls cap e) from (traded e (r .entry) (r .quantity)) _ tt h))
+
+  pub once-order : quote e ≡ false → 0 ≡ stopsAtOnce t e l
+  unfolding stopsAtOnce
+  once-order q = rw q
+
+  pub once-trades : quote e ≡ true → noneTraded (took (marketOf t) e l .records) ≡ false → 0 ≡ stopsAtOnce t e l
+  unfolding stopsAtOnce
+  once-trades q n = rw (q, n)
+
+  pub once-stops : (r : ℕ) → quote e ≡ true → noneTraded (took (marketOf t) e l .records) ≡ true → r ≡ stopFor t e l → r ≡ stopsAtOnce t e l
+  unfolding stopsAtOnce
+  once-stops r q n s = s ∙ rw (q, n) refl
+
+  -- ---- why it is rejected ----
+
+  pub rejects-first : (why : ℕ) → why ≡ protectionFor t e l → (why ≡ 0 → ⊥) → why ≡ rejection t e l
+  unfolding rejection
+  rejects-first why p n = pick (protectionFor t e l) p
+    where
+      pick : (x : ℕ) → why ≡ x → why ≡ orElse x (stopsAtOnce t e l)
+      pick zero q = absurd (n q)
+      pick (suc x) q = q
+
+  pub rejects-then : (why r : ℕ) → why ≡ protectionFor t e l → why ≡ 0 → r ≡ stopsAtOnce t e l → r ≡ rejection t e l
+  unfolding rejection
+  rejects-then why r p z s = pick (protectionFor t e l) p
+    where
+      pick : (x : ℕ) → why ≡ x → r ≡ orElse x (stopsAtOnce t e l)
+      pick zero q = s
+      pick (suc x) q = absurd (omega arith)
+
+  pub arrived-enters : (why : ℕ) → why ≡ rejection t e l → why ≡ 0 → arrived t e l ≡ entered t e l
+  unfolding arrived
+  arrived-enters why p z = ap (arrivedAs t e l) (sym p ∙ z)
+
+  pub arrived-rejected : (why : ℕ) → why ≡ rejection t e l → (why ≡ 0 → ⊥) → arrived t e l ≡ rejectedBy why e l
+  unfolding arrived
+  arrived-rejected why p n = ap (arrivedAs t e l) (sym p) ∙ pick why n
+    where
+      pick : (w : ℕ) → (w ≡ 0 → ⊥) → arrivedAs t e l w ≡ rejectedBy w e l
+      pick zero h = absurd (h refl)
+      pick (suc w) h = refl
+
+-- ---- a report of its own ----
+
+pub told-staged : {b : Book} {room room′ : List ℕ} {n n′ : ℕ} (r s : Report) → s ≡ r → WellFormed b → Put room n s room′ n′
+    → Staged (told r (entriesOf b)) room n b room′ n′
+told-staged {b} {room} {room′} {n} r s q w p = record {
+  book = book-of-entries b w;
+  well = w;
+  bytes = p .bytes ∙ ap (λ (x : Report). written room n (x ∷ [])) q;
+  count = p .count;
+}
+
+-- the first stage asks for its room, and the next for what is left of it
+pub first-room : {room : List ℕ} {n : ℕ} (r s : Report) (l : List Entry) (f : List Entry → Ran (List Entry) Report) → s ≡ r
+    → Roomy room n (andThen (told r l) f .records) → Roomy room n (s ∷ [])
+first-room r s l f q h = rw q (roomy-first (r ∷ []) (f l .records) h)
+
+-- ---- rejected ----
+
+module _ (why : ℕ) (e : Entry) where
+  abbrev bothGo : List Entry → Ran (List Entry) Report
+  bothGo l = andThen (cutQuote 30 (e .party) false l) (cutQuote 30 (e .party) true)
+
+  abbrev oneGoes : List Entry → Ran (List Entry) Report
+  oneGoes = cutQuote 30 (e .party) (e .sell)
+
+  rejected-both : (l : List Entry) → bothQuotes why ≡ true → rejectedBy why e l ≡ andThen (told (rejected why e) l) bothGo
+  unfolding rejectedBy
+  rejected-both l q = rw q refl
+
+  rejected-one : (l : List Entry) → bothQuotes why ≡ false → rejectedBy why e l ≡ andThen (told (rejected why e) l) oneGoes
+  unfolding rejectedBy
+  rejected-one l q = rw q refl
+
+  module _ {b : Book} {room : List ℕ} {n : ℕ} (a : Asks (rejectedBy why e (entriesOf b)) b room n) (s : Report) (is : s ≡ rejected why e) where
+    pub reject-room : Roomy room n (s ∷ [])
+    unfolding rejectedBy
+    reject-room = first-room (rejected why e) s (entriesOf b) (cond (bothQuotes why) bothGo oneGoes) is (a .roomy)
+
+    module _ {room′ : List ℕ} {n′ : ℕ} (p : Put room n s room′ n′) where
+      first : Staged (told (rejected why e) (entriesOf b)) room n b room′ n′
+      first = told-staged (rejected why e) s is (a .well) p
+
+      module _ (q : bothQuotes why ≡ true) where
+        both-room : Roomy room′ n′ (bothGo (entriesOf b) .records)
+        both-room = staged-room first bothGo (roomy-as (ap (λ (x : Ran (List Entry) Report). x .records) (rejected-both (entriesOf b) q)) (a .roomy))
+
+        pub both-first : Asks (cutQuote 30 (e .party) false (entriesOf b)) b room′ n′
+        both-first = record { well = a .well; roomy = roomy-first (cutQuote 30 (e .party) false (entriesOf b) .records) _ both-room }
+
+        module _ {c : Book} {room″ : List ℕ} {n″ : ℕ} (x : Staged (cutQuote 30 (e .party) false (entriesOf b)) room′ n′ c room″ n″) where
+          pub both-second : Asks (cutQuote 30 (e .party) true (entriesOf c)) c room″ n″
+          both-second = record { well = x .well; roomy = staged-room x (cutQuote 30 (e .party) true) both-room }
+
+          pub both-done : {d : Book} {last : List ℕ} {n‴ : ℕ} → Staged (cutQuote 30 (e .party) true (entriesOf c)) room″ n″ d last n‴
+              → Staged (rejectedBy why e (entriesOf b)) room n d last n‴
+          both-done y = staged-as (sym (rejected-both (entriesOf b) q)) (staged-then first bothGo (staged-then x (cutQuote 30 (e .party) true) y))
+
+      module _ (q : bothQuotes why ≡ false) where
+        pub one-first : Asks (cutQuote 30 (e .party) (e .sell) (entriesOf b)) b room′ n′
+        one-first = record {
+          well = a .well;
+          roomy = staged-room first oneGoes (roomy-as (ap (λ (x : Ran (List Entry) Report). x .records) (rejected-one (entriesOf b) q)) (a .roomy));
+        }
+
+        pub one-done : {c : Book} {room″ : List ℕ} {n″ : ℕ} → Staged (cutQuote 30 (e .party) (e .sell) (entriesOf b)) room′ n′ c room″ n″
+            → Staged (rejectedBy why e (entriesOf b)) room n c room″ n″
+        one-done x = staged-as (sym (rejected-one (entriesOf b) q)) (staged-then first oneGoes x)
+
+-- ---- what concerns quotes only ----
+
+pub of-quote : (e : Entry) (f : List Entry → Ran (List Entry) Report) (l : List Entry) → quote e ≡ true → f l ≡ ofQuotes e f l
+of-quote e f l q = rw q refl
+
+pub of-order : (e : Entry) (f : List Entry → Ran (List Entry) Report) (l : List Entry) → quote e ≡ false → still l ≡ ofQuotes e f l
+of-order e f l q = rw q refl
+
+-- ---- what is left rests ----
+
+module _ {t : Terms} {e : Entry} {b : Book} {left : ℕ} {room : List ℕ} {n : ℕ} (a : Rests t e b left room n) (x : Entry) (s : Report)
+    (is : x ≡ resting e left (pricesOf t e (entriesOf b))) (tells : s ≡ rested x) where
+  pub rest-room : Roomy room n (s ∷ [])
+  rest-room = rw (tells, is) (a .roomy)
+
+  pub rest-done : {room′ : List ℕ} {n′ : ℕ} {c : Book} → Put room n s room′ n′ → c ≡ bookOf (post x (entriesOf b))
+      → Staged (posted t e left (entriesOf b)) room n c room′ n′
+  rest-done p q = record {
+    book = q ∙ ap (λ (y : Entry). bookOf (post y (entriesOf b))) is;
+    well = holds q (post-fits b x (record { well = a .posts .well; space = a .space })) .well;
+    bytes = p .bytes ∙ ap (λ (r : Report). written room n (r ∷ [])) (tells ∙ ap rested is);
+    count = p .count;
+  }
+
+-- ---- what is left is cancelled ----
+
+module _ (why : ℕ) (e : Entry) (left : ℕ) {b : Book} {room : List ℕ} {n : ℕ} (a : Asks (cancelledRest why e left (entriesOf b)) b room n) (x : Entry)
+    (s : Report) (is : x ≡ remainder e left) (tells : s ≡ cancelled why x) where
+  abbrev otherGoes : List Entry → Ran (List Entry) Report
+  otherGoes = ofQuotes e (cutQuote 29 (e .party) (not (e .sell)))
+
+  says : s ≡ cancelled why (remainder e left)
+  says = tells ∙ ap (cancelled why) is
+
+  pub cancel-room : Roomy room n (s ∷ [])
+  cancel-room = first-room (cancelled why (remainder e left)) s (entriesOf b) otherGoes says (a .roomy)
+
+  module _ {room′ : List ℕ} {n′ : ℕ} (p : Put room n s room′ n′) where
+    first-told : Staged (told (cancelled why (remainder e left)) (entriesOf b)) room n b room′ n′
+    first-told = told-staged (cancelled why (remainder e left)) s says (a .well) p
+
+    pub other-asks : quote e ≡ true → Asks (cutQuote 29 (e .party) (not (e .sell)) (entriesOf b)) b room′ n′
+    other-asks q = record {
+      well = a .well;
+      roomy = roomy-as (ap (λ (y : Ran (List Entry) Report). y .records) (sym (of-quote e (cutQuote 29 (e .party) (not (e .sell))) (entriesOf b) q)))
+          (staged-room first-told otherGoes (a .roomy));
+    }
+
+    pub other-done : {c : Book} {room″ : List ℕ} {n″ : ℕ} → quote e ≡ true → Staged (cutQuote 29 (e .party) (not (e .sell)) (entriesOf b)) room′ n′ c room″ n″
+        → Staged (cancelledRest why e left (entriesOf b)) room n c room″ n″
+    other-done q y = staged-then first-told otherGoes (staged-as (of-quote e (cutQuote 29 (e .party) (not (e .sell))) (entriesOf b) q) y)
+
+    pub alone-done : quote e ≡ false → Staged (cancelledRest why e left (entriesOf b)) room n b room′ n′
+    alone-done q =
+        staged-then first-told otherGoes
+        (staged-as (of-order e (cutQuote 29 (e .party) (not (e .sell))) (entriesOf b) q) (staged-none b room′ n′ (a .well)))
+
+-- ---- the end ----
+
+module _ (t : Terms) (e : Entry) where
+  pub finished-none : (left why : ℕ) (l : List Entry) → left ≡ 0 → still l ≡ finished t e left why l
+  finished-none zero why l q = refl
+  finished-none (suc left) why l q = absurd (omega arith)
+
+  pub finished-posts : (left why : ℕ) (l : List Entry) → (left ≡ 0 → ⊥) → why ≡ 0 → posted t e left l ≡ finished t e left why l
+  finished-posts zero why l n q = absurd (n refl)
+  finished-posts (suc left) zero l n q = refl
+  finished-posts (suc left) (suc why) l n q = absurd (omega arith)
+
+  pub finished-cancels : (left why : ℕ) (l : List Entry) → (left ≡ 0 → ⊥) → (why ≡ 0 → ⊥) → cancelledRest why e left l ≡ finished t e left why l
+  finished-cancels zero why l n q = absurd (n refl)
+  finished-cancels (suc left) zero l n q = absurd (q refl)
+  finished-cancels (suc left) (suc why) l n q = refl
+
+module _ {t : Terms} {e : Entry} {b : Book} {left : ℕ} {room : List ℕ} {n : ℕ} (a : Finishes t e b left room n) where
+  pub finish-none : left ≡ 0 → Staged (finished t e left (stopFor t e (entriesOf b)) (entriesOf b)) room n b room n
+  finish-none q = staged-as (finished-none t e left (stopFor t e (entriesOf b)) (entriesOf b) q) (staged-none b room n (a .posts .well))
+
+  module _ (why : ℕ) (is : why ≡ stopFor t e (entriesOf b)) (some : left ≡ 0 → ⊥) where
+    same-end : finished t e left why (entriesOf b) ≡ finished t e left (stopFor t e (entriesOf b)) (entriesOf b)
+    same-end = ap (λ (w : ℕ). finished t e left w (entriesOf b)) is
+
+    pub finish-rests : why ≡ 0 → Rests t e b left room n
+    finish-rests z = record {
+      posts = a .posts;
+      space = a .space;
+      roomy = roomy-as (ap (λ (x : Ran (List Entry) Report). x .records) (sym (finished-posts t e left why (entriesOf b) some z ∙ same-end))) (a .roomy);
+    }
+
+    pub finish-posted : {c : Book} {room′ : List ℕ} {n′ : ℕ} → why ≡ 0 → Staged (posted t e left (entriesOf b)) room n c room′ n′
+        → Staged (finished t e left (stopFor t e (entriesOf b)) (entriesOf b)) room n c room′ n′
+    finish-posted z x = staged-as (finished-posts t e left why (entriesOf b) some z ∙ same-end) x
+
+    pub finish-cancels : (why ≡ 0 → ⊥) → Asks (cancelledRest why e left (entriesOf b)) b room n
+    finish-cancels z = record {
+      well = a .posts .well;
+      roomy = roomy-as (ap (λ (x : Ran (List Entry) Report). x .records) (sym (finished-cancels t e left why (entriesOf b) some z ∙ same-end))) (a .roomy);
+    }
+
+    pub finish-cancelled : {c : Book} {room′ : List ℕ} {n′ : ℕ} → (why ≡ 0 → ⊥) → Staged (cancelledRest why e left (entriesOf b)) room n c room′ n′
+        → Staged (finished t e left (stopFor t e (entriesOf b)) (entriesOf b)) room n c room′ n′
+    finish-cancelled z x = staged-as (finished-cancels t e left why (entriesOf b) some z ∙ same-end) x
+
+-- ---- trades ----
+
+module _ {t : Terms} {e : Entry} {b : Book} {left : ℕ} {room : List ℕ} {n : ℕ} (a : TakesOn t e b left room n) where
+  pub take-minds : minds (e .kind) ≡ true → TookAs (took (marketOf t) e (entriesOf b)) room n b left room n
+  unfolding took still
+  take-minds q = rw q (record {
+    book = book-of-entries b (a .well);
+    well = a .well;
+    left = a .whole;
+    bytes = sym (written-none room n);
+    count = omega arith;
+  })
+
+  module _ (k : Market) (cap : ℕ) (q : minds (e .kind) ≡ false) (p : k ≡ marketOf t) (w : cap ≡ bound k e) where
+    same-run : taken cap e (takingOf left b) ≡ took (marketOf t) e (entriesOf b)
+    unfolding took
+    same-run = rw (q, w, p, a .whole) refl
+
+    pub take-asks : Takes (taken cap e (takingOf left b)) b room n
+    take-asks = record { well = a .well; roomy = roomy-as (ap (λ (x : Ran Taking Report). x .records) (sym same-run)) (a .roomy) }
+
+    pub take-took : {c : Book} {left′ : ℕ} {room′ : List ℕ} {n′ : ℕ} → TookAs (taken cap e (takingOf left b)) room n c left′ room′ n′
+        → TookAs (took (marketOf t) e (entriesOf b)) room n c left′ room′ n′
+    take-took {c} {left′} {room′} {n′} x = subst (λ (y : Ran Taking Report). TookAs y room n c left′ room′ n′) same-run x
+
+-- ---- an arrival that is not rejected ----
+
+module _ {t : Terms} {e : Entry} {b : Book} {room : List ℕ} {n : ℕ} (a : Arrives (entered t e (entriesOf b)) t e b room n) where
+  all-room : Roomy room n (andThen (replaced e (entriesOf b)) (goesOn t e) .records)
+  unfolding entered
+  all-room = a .roomy
+
+  pub enter-replaces : Asks (replaced e (entriesOf b)) b room n
+  enter-replaces = record { well = a .enters .well; roomy = roomy-first (replaced e (entriesOf b) .records) _ all-room }
+
+  module _ {c : Book} {room′ : List ℕ} {n′ : ℕ} (x : Staged (replaced e (entriesOf b)) room n c room′ n′) where
+    rest-of-room : Roomy room′ n′ (goesOn t e (entriesOf c) .records)
+    rest-of-room = staged-room x (goesOn t e) all-room
+
+    pub enter-takes : TakesOn t e c (e .quantity) room′ n′
+    enter-takes = record { well = x .well; whole = refl; roomy = roomy-first (took (marketOf t) e (entriesOf c) .records) _ rest-of-room }
+
+    module _ {d : Book} {left : ℕ} {room″ : List ℕ} {n″ : ℕ} (y : TookAs (took (marketOf t) e (entriesOf c)) room′ n′ d left room″ n″) where
+      abbrev run : Ran Taking Report
+      run = took (marketOf t) e (entriesOf c)
+
+      taken-stage : Staged (record { final = run .final .book; records = run .records }) room′ n′ d room″ n″
+      taken-stage = record { book = y .book; well = y .well; bytes = y .bytes; count = y .count }
+
+      rests : entriesOf d ≡ run .final .book
+      rests = staged-list taken-stage
+
+      abbrev ending : List Entry → Ran (List Entry) Report
+      ending = finished t e (run .final .left) (stopFor t e (run .final .book))
+
+      same-ending : ending (entriesOf d) ≡ finished t e left (stopFor t e (entriesOf d)) (entriesOf d)
+      same-ending = rw (y .left, rests) refl
+
+      sound-after : Sound (t .m) (t .given) (entriesOf d)
+      sound-after =
+          rw rests (took-sound (marketOf t) e (entriesOf c) (rw (staged-list x) (replaced-stage t e (entriesOf b) (a .enters .arriving) .sound)))
+
+      pub enter-finishes : Finishes t e d left room″ n″
+      enter-finishes = record {
+        posts = posts-of t e d (a .enters .arriving .market) (a .enters .arriving .steps) (y .well) sound-after;
+        space = omega (
+          arith,
+          length-entries d (y .well),
+          ap length rests,
+          took-length (marketOf t) e (entriesOf c),
+          ap length (staged-list x),
+          a .enters .arriving .space,
+        );
+        roomy = roomy-as (ap (λ (z : Ran (List Entry) Report). z .records) same-ending) (staged-room taken-stage ending rest-of-room);
+      }
+
+      pub enter-done : {last : Book} {room‴ : List ℕ} {n‴ : ℕ} → Staged (finished t e left (stopFor t e (entriesOf d)) (entriesOf d)) room″ n″ last room‴ n‴
+          → Staged (entered t e (entriesOf b)) room n last room‴ n‴
+      unfolding entered
+      enter-done z = staged-then x (goesOn t e) (staged-then taken-stage ending (staged-as (sym same-ending) z))
+
+-- ---- either ----
+
+module _ {t : Terms} {e : Entry} {b : Book} {room : List ℕ} {n : ℕ} (a : Arrives (arrived t e (entriesOf b)) t e b room n) (why : ℕ)
+    (is : why ≡ rejection t e (entriesOf b)) where
+  pub arrive-rejects : (why ≡ 0 → ⊥) → Asks (rejectedBy why e (entriesOf b)) b room n
+  arrive-rejects h = record {
+    well = a .enters .well;
+    roomy = roomy-as (ap (λ (x : Ran (List Entry) Report). x .records) (arrived-rejected t e (entriesOf b) why is h)) (a .roomy);
+  }
+
+  pub arrive-enters : why ≡ 0 → Arrives (entered t e (entriesOf b)) t e b room n
+  arrive-enters h = record {
+    enters = a .enters;
+    roomy = roomy-as (ap (λ (x : Ran (List Entry) Report). x .records) (arrived-enters t e (entriesOf b) why is h)) (a .roomy);
+  }

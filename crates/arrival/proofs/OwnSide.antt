@@ -1,0 +1,181 @@
+-- "A quote so stopped with nothing traded is rejected": whether that is so is asked before the quote that it would replace has gone. That quote stands on its own
+-- side, where it neither trades nor stops it; so where a quote's rest is cancelled, something was traded.
+-- Assumes nothing.
+use Prim.Native.Nat.{ℕ, zero, suc, _+_, _≤_}
+use mathlib.Core.Path.{_≡_, refl, sym, subst, ap, _∙_}
+use mathlib.Core.Bool.{Bool, true, false, cond, not, _&&_, _||_, Bool·beq}
+use mathlib.Core.List.{List, [], _∷_}
+use native.Mathlib.Omega.{arith}
+use lib.Dec.{eqb}
+use Rattle.prices.specs.declared.Market.{Market}
+use Rattle.prices.specs.Side.{reaches}
+use Rattle.prices.specs.Aims.{minds}
+use Rattle.prices.proofs.FrameLaws.{seen-inj}
+use Rattle.lists.specs.Places.{At, without}
+use Rattle.lists.specs.Tests.{any}
+use Rattle.lists.specs.Choose.{scan, Found, nowhere, found}
+use Rattle.lists.specs.Run.{Complete, done, then, Ran, still}
+use Rattle.lists.proofs.Bools.{clash, and-left}
+use Rattle.lists.proofs.PlaceLaws.{at-same}
+use Rattle.lists.proofs.ChooseLaws.{Tells}
+use Rattle.packing.specs.declared.report.Report.{Report}
+use Rattle.book.specs.declared.Entry.{Entry}
+use Rattle.book.specs.Entries.{quote, quoteOf, against}
+use Rattle.book.specs.Look.{working, facing, nearest, contra, eligible, bestContra, hidden, hiddenWithin, quoteIn}
+use Rattle.book.proofs.LookLaws.{ContraTells, contra-tells, quote-tells}
+use Rattle.sound.proofs.Facts.{Sound}
+use Rattle.sound.proofs.FrontLaws.{cost-is}
+use Rattle.sound.proofs.KeepLaws.{here-facts}
+use Rattle.arrival.specs.declared.Terms.{Terms}
+use Rattle.arrival.specs.Terms.{marketOf}
+use Rattle.arrival.specs.Cancel.{cut, cutQuote}
+use Rattle.arrival.specs.Take.{Taking, bound, shownOnly, nextTake, took}
+use Rattle.arrival.specs.Post.{stopFor}
+use Rattle.arrival.specs.Arrive.{replaced, noneTraded, stopsAtOnce, protectionFor, orElse, rejection}
+use Rattle.arrival.proofs.TakeLaws.{withinBound, take-run, took-either, takes-now}
+use Rattle.arrival.proofs.CutLaws.{of-maker}
+use Rattle.arrival.proofs.Leaves.{Rests, rests-without, rests-back}
+
+-- ---- an entry that does not face a side is nothing to it ----
+
+pub not-against : (s : Bool) (x : Entry) → x .sell ≡ s → against s x ≡ false
+not-against s x e = rw e (go s)
+  where
+    go : (s : Bool) → Bool·beq s (not s) ≡ false
+    go true = refl
+    go false = refl
+
+-- a scan that does not ask for places is the same from any
+placeless : (s : Bool) (l : List Entry) (q j k : ℕ)
+    → scan (λ (p : ℕ) (_ : ℕ) (e : Entry). facing working s p e) q j l ≡ scan (λ (p : ℕ) (_ : ℕ) (e : Entry). facing working s p e) q k l
+unfolding scan
+placeless s [] q j k = refl
+placeless s (y ∷ l) q j k = placeless s l (facing working s q y) (j + 1) (k + 1)
+
+module _ (s : Bool) (x : Entry) (own : against s x ≡ false) where
+  contra-from : (l : List Entry) (i q j k : ℕ) → At l i x
+      → scan (λ (p : ℕ) (_ : ℕ) (e : Entry). facing working s p e) q j (without i l) ≡ scan (λ (p : ℕ) (_ : ℕ) (e : Entry). facing working s p e) q k l
+  unfolding scan without
+  contra-from [] i q j k h = absurd h
+  contra-from (y ∷ l) zero q j k h = let n : against s y ≡ false = ap (against s) h ∙ own in rw n (placeless s l q j (k + 1))
+  contra-from (y ∷ l) (suc i) q j k h = contra-from l i (facing working s q y) (j + 1) (k + 1) h
+
+  -- C is the same without it
+  own-contra : (l : List Entry) (i : ℕ) → At l i x → contra s (without i l) ≡ contra s l
+  unfolding nearest
+  own-contra l i h = contra-from l i 0 0 0 h
+
+  -- so is what 21 looks for
+  hidden-from : (limit : ℕ) (l : List Entry) (i : ℕ) → At l i x → any (hidden s limit) (without i l) ≡ any (hidden s limit) l
+  unfolding any without
+  hidden-from limit [] i h = absurd h
+  hidden-from limit (y ∷ l) zero h = let n : against s y ≡ false = ap (against s) h ∙ own in rw n refl
+  hidden-from limit (y ∷ l) (suc i) h = ap (λ (b : Bool). hidden s limit y || b) (hidden-from limit l i h)
+
+  own-hidden : (limit : ℕ) (l : List Entry) (i : ℕ) → At l i x → hiddenWithin s limit (without i l) ≡ hiddenWithin s limit l
+  unfolding hiddenWithin
+  own-hidden limit l i h = hidden-from limit l i h
+
+module _ {m top : ℕ} (e x : Entry) (own : against (e .sell) x ≡ false) (l : List Entry) (so : Sound m top l) (i : ℕ) (at : At l i x) where
+  -- and whether the best contra entry is within a bound
+  own-best : (cap : ℕ) → withinBound cap e (bestContra (e .sell) (shownOnly e) (without i l)) ≡ withinBound cap e (bestContra (e .sell) (shownOnly e) l)
+  own-best cap =
+      go (bestContra (e .sell) (shownOnly e) (without i l)) (contra-tells (e .sell) (shownOnly e) (without i l))
+      (bestContra (e .sell) (shownOnly e) l) (contra-tells (e .sell) (shownOnly e) l)
+    where
+      faces : (j : ℕ) (y : Entry) → At l j y → eligible (e .sell) (shownOnly e) y ≡ true → Rests (without i l) y
+      faces j y a p = rests-without l j i y a (λ q. clash
+          (ap (against (e .sell)) (at-same l i x y at (subst (λ (n : ℕ). At l n y) q a)) ∙ and-left (against (e .sell) y) _ p) own)
+
+      go : (f : Found Entry) → ContraTells (e .sell) (shownOnly e) (without i l) f → (g : Found Entry) → ContraTells (e .sell) (shownOnly e) l g
+          → withinBound cap e f ≡ withinBound cap e g
+      go nowhere u nowhere v = refl
+      go nowhere u (found j y) v =
+          let r : Rests (without i l) y = faces j y (v .chosen .there) (v .chosen .passes) in
+          clash (v .chosen .passes) (u .nobody (r .place) y (r .there))
+      go (found k z) u nowhere v =
+          let r : Rests l z = rests-back l k i z (u .chosen .there) in
+          clash (u .chosen .passes) (v .nobody (r .place) z (r .there))
+      go (found k z) u (found j y) v =
+          let r : Rests l z = rests-back l k i z (u .chosen .there) in
+          let q : Rests (without i l) y = faces j y (v .chosen .there) (v .chosen .passes) in
+          ap (reaches (e .sell) cap) (seen-inj (e .sell) (z .working) (y .working)
+          (omega (arith, here-facts so (r .place) z (r .there) .works .high)) (omega (arith, here-facts so j y (v .chosen .there) .works .high))
+          (omega (
+            arith,
+            u .price (q .place) y (q .there) (v .chosen .passes),
+            v .price (r .place) z (r .there) (u .chosen .passes),
+            cost-is (e .sell) (y .working),
+            cost-is (e .sell) (z .working),
+          )))
+
+  own-trades : (k : Market) → noneTraded (took k e (without i l) .records) ≡ noneTraded (took k e l .records)
+  own-trades k =
+      takes-now k e (without i l)
+      ∙ ap (λ (b : Bool). minds (e .kind) || (eqb (e .quantity) 0 || not b)) (own-best (bound k e))
+      ∙ sym (takes-now k e l)
+
+  own-stop : (t : Terms) → stopFor t e (without i l) ≡ stopFor t e l
+  unfolding stopFor
+  own-stop t = rw (own-contra (e .sell) x own l i at, own-hidden (e .sell) x own (e .limit) l i at) refl
+
+-- ---- the quote replaced ----
+
+module _ {m top : ℕ} (t : Terms) (e : Entry) (l : List Entry) (so : Sound m top l) (q : quote e ≡ true) where
+  replaced-is : replaced e l ≡ cutQuote 27 (e .party) (e .sell) l
+  replaced-is = rw q refl
+
+  -- it changes neither why an arrival may not rest,
+  pub same-stop : stopFor t e (replaced e l .final) ≡ stopFor t e l
+  unfolding cut still
+  same-stop =
+      ap (λ (x : Ran (List Entry) Report). stopFor t e (x .final)) replaced-is
+      ∙ go (quoteIn (e .party) (e .sell) l) (quote-tells l (e .party) (e .sell))
+    where
+      go : (f : Found Entry) → Tells (quoteOf (e .party) (e .sell)) (λ _. 0) l f → stopFor t e (cut 27 l f .final) ≡ stopFor t e l
+      go nowhere c = refl
+      go (found i x) c = own-stop e x (not-against (e .sell) x (of-maker (e .party) (e .sell) x (c .passes) .side)) l so i (c .there) t
+
+  -- nor whether it trades
+  pub same-trades : noneTraded (took (marketOf t) e (replaced e l .final) .records) ≡ noneTraded (took (marketOf t) e l .records)
+  unfolding cut still
+  same-trades =
+      ap (λ (x : Ran (List Entry) Report). noneTraded (took (marketOf t) e (x .final) .records)) replaced-is
+      ∙ go (quoteIn (e .party) (e .sell) l) (quote-tells l (e .party) (e .sell))
+    where
+      go : (f : Found Entry) → Tells (quoteOf (e .party) (e .sell)) (λ _. 0) l f
+          → noneTraded (took (marketOf t) e (cut 27 l f .final) .records) ≡ noneTraded (took (marketOf t) e l .records)
+      go nowhere c = refl
+      go (found i x) c = own-trades e x (not-against (e .sell) x (of-maker (e .party) (e .sell) x (c .passes) .side)) l so i (c .there) (marketOf t)
+
+-- ---- where nothing was traded, the book is as it was ----
+
+none-done : (cap : ℕ) (e : Entry) {s u : Taking} {rs : List Report} → Complete (nextTake cap e) s rs u → noneTraded rs ≡ true → u ≡ s
+none-done cap e (done g) h = refl
+none-done cap e (then g c) h = clash h refl
+
+pub none-took : (k : Market) (e : Entry) (l : List Entry) → noneTraded (took k e l .records) ≡ true → took k e l .final .book ≡ l
+unfolding still
+none-took k e l =
+    took-either k e l (λ (x : Ran Taking Report). noneTraded (x .records) ≡ true → x .final .book ≡ l) (λ _ h. refl)
+    (λ _ h. ap (λ (u : Taking). u .book) (none-done (bound k e) e (take-run (bound k e) e (record { left = e .quantity; book = l })) h))
+
+-- A QUOTE WHOSE REST IS STOPPED, AND WHICH IS NOT REJECTED, HAS TRADED
+pub stopped-traded : {m top : ℕ} (t : Terms) (e : Entry) (l : List Entry) → Sound m top l → quote e ≡ true → rejection t e l ≡ 0
+    → 1 ≤ stopFor t e (took (marketOf t) e (replaced e l .final) .final .book) → noneTraded (took (marketOf t) e (replaced e l .final) .records) ≡ false
+unfolding rejection stopsAtOnce
+stopped-traded t e l so q h why = go (noneTraded (took (marketOf t) e (replaced e l .final) .records)) refl
+  where
+    passed : (n k : ℕ) → orElse n k ≡ 0 → k ≡ 0
+    passed zero k g = g
+    passed (suc n) k g = absurd (omega arith)
+
+    go : (b : Bool) → noneTraded (took (marketOf t) e (replaced e l .final) .records) ≡ b → b ≡ false
+    go false g = refl
+    go true g =
+        let z : cond (quote e && noneTraded (took (marketOf t) e l .records)) (stopFor t e l) 0 ≡ 0 = passed (protectionFor t e l) _ h in
+        let n : noneTraded (took (marketOf t) e l .records) ≡ true = sym (same-trades t e l so q) ∙ g in
+        let w : stopFor t e l ≡ 0 = rw (q, n) at z in
+        let y : stopFor t e (took (marketOf t) e (replaced e l .final) .final .book) ≡ 0 =
+        ap (stopFor t e) (none-took (marketOf t) e (replaced e l .final) g) ∙ same-stop t e l so q ∙ w in
+        absurd (omega arith)

@@ -1,0 +1,46 @@
+use mathlib.Core.Path.{sym, ap, _∙_}
+use Rattle.arrival.proofs.EnterLaws.{cancel-room, other-asks, other-done, alone-done}
+use borrow.Author.Needs.{needs}
+use Rattle.arrival.proofs.arrive.cancel_rest.Statement.{statement}
+use Rattle.arrival.proofs.arrive.cancel_rest.Tie as tie
+
+remainder-of-requires : tie.Need-remainder-of-requires
+remainder-of-requires c κs = search needs
+
+tell-cancelled-requires : tie.Need-tell-cancelled-requires
+tell-cancelled-requires c κs = search needs
+
+put-requires : tie.Need-put-requires
+put-requires c κs = let s = c .before .before .before .before .before in cancel-room (s .args .why) (s .args .e) (s .args .left) (s .pre) _ _ (c .before .before .before .remainder-of .ensures) (c .before .before .tell-cancelled .ensures)
+
+is-quote-requires : tie.Need-is-quote-requires
+is-quote-requires c κs = search needs
+
+cut-quote-requires : tie.Need-cut-quote-requires
+cut-quote-requires c κs = let s = c .before .before .before .before .before .before .before .before .before .before .before .before .before in other-asks (s .args .why) (s .args .e) (s .args .left) (s .pre) _ _ (c .before .before .before .before .before .before .before .before .before .before .before .remainder-of .ensures) (c .before .before .before .before .before .before .before .before .before .before .tell-cancelled .ensures) (c .before .before .before .before .before .before .before .put .ensures) (sym (c .before .before .before .before .is-quote .ensures) ∙ c .before .before .before .if1 .taken)
+
+same-length : tie.Need-same-length
+same-length c = search needs
+
+returns : tie.Need-returns
+returns c = let s = c .before .before .before .before .before .before .before .before .before .before .before .before .before .before .before .before in other-done (s .args .why) (s .args .e) (s .args .left) (s .pre) _ _ (c .before .before .before .before .before .before .before .before .before .before .before .before .before .before .remainder-of .ensures) (c .before .before .before .before .before .before .before .before .before .before .before .before .before .tell-cancelled .ensures) (c .before .before .before .before .before .before .before .before .before .before .put .ensures) (sym (c .before .before .before .before .before .before .before .is-quote .ensures) ∙ c .before .before .before .before .before .before .if1 .taken) (c .before .before .cut-quote .ensures)
+
+same-length-2 : tie.Need-same-length-2
+same-length-2 c = search needs
+
+returns-2 : tie.Need-returns-2
+returns-2 c = let s = c .before .before .before .before .before .before .before .before .before .before in alone-done (s .args .why) (s .args .e) (s .args .left) (s .pre) _ _ (c .before .before .before .before .before .before .before .before .remainder-of .ensures) (c .before .before .before .before .before .before .before .tell-cancelled .ensures) (c .before .before .before .before .put .ensures) (sym (c .before .is-quote .ensures) ∙ c .if1 .left)
+
+pub cancel-rest-spec : {M : Type 1} → statement M
+cancel-rest-spec =
+    tie.close
+    (tie.spec
+    remainder-of-requires
+    tell-cancelled-requires
+    put-requires
+    is-quote-requires
+    cut-quote-requires
+    same-length
+    returns
+    same-length-2
+    returns-2)

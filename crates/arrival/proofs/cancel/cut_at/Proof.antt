@@ -1,0 +1,47 @@
+use Rattle.arrival.proofs.StageLaws.{roomy-as}
+use Rattle.settling.specs.Tell.{cancelled}
+use Rattle.book.proofs.ChangeLaws.{without-fits}
+use Rattle.book.proofs.ShapeLaws.{entry-at, holds}
+use Rattle.book.specs.Shape.{zeroEntry}
+use Rattle.book.specs.declared.Entry.{Entry}
+use Rattle.packing.specs.Room.{written}
+use Rattle.packing.specs.declared.report.Report.{Report}
+use native.Mathlib.Omega.{arith}
+use mathlib.Core.List.{[], _∷_}
+use mathlib.Core.Path.{sym, ap, _∙_}
+use borrow.Author.Needs.{needs}
+use Rattle.arrival.proofs.cancel.cut_at.Statement.{statement}
+use Rattle.arrival.proofs.cancel.cut_at.Tie as tie
+
+mul-tell-cancelled : tie.Need-mul-tell-cancelled
+mul-tell-cancelled c = search needs
+
+element-copy-out-tell-cancelled : tie.Need-element-copy-out-tell-cancelled
+element-copy-out-tell-cancelled c = search needs
+
+tell-cancelled-requires : tie.Need-tell-cancelled-requires
+tell-cancelled-requires c κs = search needs
+
+put-requires : tie.Need-put-requires
+put-requires c κs = let s = c .before .before .before .before .before in roomy-as (ap (λ (r : Report). r ∷ []) (sym (c .before .before .tell-cancelled .ensures ∙ ap (λ (e : Entry). cancelled (s .args .why) e) (sym (entry-at (s .args .t1) (s .args .i) zeroEntry (s .pre .place .inside)))))) (s .pre .roomy)
+
+removed-requires : tie.Need-removed-requires
+removed-requires c κs = search needs
+
+same-length : tie.Need-same-length
+same-length c = search needs
+
+returns : tie.Need-returns
+returns c = let s = c .before .before .before .before .before .before .before .before .before in let p = c .before .before .before .put in let told = c .before .before .before .before .before .before .tell-cancelled .ensures ∙ ap (λ (e : Entry). cancelled (s .args .why) e) (sym (entry-at (s .args .t1) (s .args .i) zeroEntry (s .pre .place .inside))) in record { book = c .removed .ensures; well = holds (c .removed .ensures) (omega (arith, without-fits (s .args .t1) (s .args .i) (s .pre .place))) .well; bytes = p .ensures .bytes ∙ ap (λ (r : Report). written (s .args .room .now) (s .args .n .now) (r ∷ [])) told; count = p .ensures .count }
+
+pub cut-at-spec : {M : Type 1} → statement M
+cut-at-spec =
+    tie.close
+    (tie.spec
+    mul-tell-cancelled
+    element-copy-out-tell-cancelled
+    tell-cancelled-requires
+    put-requires
+    removed-requires
+    same-length
+    returns)

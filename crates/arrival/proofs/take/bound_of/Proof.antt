@@ -1,0 +1,15 @@
+use borrow.Author.Needs.{needs}
+use Rattle.arrival.proofs.take.bound_of.Statement.{statement}
+use Rattle.arrival.proofs.take.bound_of.Tie as tie
+
+away-of-requires : tie.Need-away-of-requires
+away-of-requires c κs = search needs
+
+held-to-requires : tie.Need-held-to-requires
+held-to-requires c κs = search needs
+
+returns : tie.Need-returns
+returns c = rw (c .held-to .ensures, c .before .away-of .ensures)
+
+pub bound-of-spec : {M : Type 1} → statement M
+bound-of-spec = tie.close (tie.spec away-of-requires held-to-requires returns)

@@ -1,0 +1,96 @@
+-- What the handler has seen to before a quote or an order arrives: the tests of its refusals, and the soundness of the series.
+-- Assumes nothing.
+use Prim.Native.Nat.{ℕ, _+_, _-_, _≤_, _<_}
+use mathlib.Core.Path.{_≡_}
+use mathlib.Core.Bool.{Bool, true, false}
+use mathlib.Core.List.{List}
+use lib.ListN.{length}
+use Rattle.prices.specs.Step.{legal}
+use Rattle.lists.specs.Run.{Step, stop, go, Ran}
+use Rattle.settling.specs.Tell.{traded}
+use Rattle.book.specs.Change.{hit}
+use Rattle.packing.specs.declared.report.Report.{Report}
+use Rattle.packing.specs.Room.{written}
+use Rattle.book.specs.declared.Entry.{Entry}
+use Rattle.book.specs.declared.Book.{Book}
+use Rattle.book.specs.Shape.{entriesOf, bookOf, WellFormed}
+use Rattle.book.specs.Entries.{quote}
+use Rattle.sound.specs.Sound.{soundEntries}
+use Rattle.settling.specs.Stage.{soundMarket, Roomy}
+use Rattle.arrival.specs.declared.Terms.{Terms}
+use Rattle.arrival.specs.Terms.{marketOf}
+use Rattle.arrival.specs.Take.{Taking, nextTake, took}
+use Rattle.arrival.specs.Post.{stopFor, Posts}
+use Rattle.arrival.specs.declared.take.Trade.{Trade}
+use Rattle.arrival.specs.Arrive.{replaced, posted, finished}
+
+pub record Arriving (t : Terms) (e : Entry) (l : List Entry) : Type 0 where
+  pub market : soundMarket (marketOf t) ≡ true
+  pub entries : soundEntries (t .m) (t .given) l ≡ true
+  pub steps : t .k ≤ 100
+  -- the next number, of which there are 1,000,000
+  pub number : e .number ≡ t .given + 1
+  pub fresh : t .given < 1000000
+  pub kind-low : 1 ≤ e .kind
+  pub kind-high : e .kind ≤ 6
+  pub party-low : 1 ≤ e .party
+  pub party-high : e .party ≤ 99
+  pub maker : quote e ≡ true → e .party ≤ 16
+  pub limit : legal (t .m) (e .limit) ≡ true
+  pub some : 1 ≤ e .quantity
+  pub most : e .quantity ≤ 99999
+  -- "64 entries rest, not counting the quote this one replaces"
+  pub space : length (replaced e l .final) < 64
+
+-- ---- taking: the book, what is left of the taker, the room and the count ----
+
+pub record Takes (x : Ran Taking Report) (b : Book) (room : List ℕ) (n : ℕ) : Type 0 where
+  pub well : WellFormed b
+  pub roomy : Roomy room n (x .records)
+
+pub record TookAs (x : Ran Taking Report) (room : List ℕ) (n : ℕ) (after : Book) (left′ : ℕ) (room′ : List ℕ) (n′ : ℕ) : Type 0 where
+  pub book : after ≡ bookOf (x .final .book)
+  pub well : WellFormed after
+  pub left : left′ ≡ x .final .left
+  pub bytes : room′ ≡ written room n (x .records)
+  pub count : n′ ≡ n + length (x .records)
+
+-- where the taker stands
+abbrev pub takingOf : ℕ → Book → Taking
+takingOf left b = record { left = left; book = entriesOf b }
+
+-- a trade that code has found, as the rule's step
+abbrev pub tradeAs : Entry → Taking → Bool → ℕ → Entry → ℕ → Step Taking Report
+tradeAs e t false at y quantity = stop
+tradeAs e t true at y quantity = go (traded e y quantity) (record { left = t .left - quantity; book = hit at quantity (t .book) })
+
+pub record NextTrade (cap : ℕ) (e : Entry) (t : Taking) (r : Trade) : Type 0 where
+  pub is : nextTake cap e t ≡ tradeAs e t (r .going) (r .at) (r .entry) (r .quantity)
+  pub inside : r .going ≡ true → r .at < length (t .book)
+  pub most : r .quantity ≤ t .left
+
+-- ---- an arrival, in its parts ----
+
+pub record Enters (t : Terms) (e : Entry) (b : Book) : Type 0 where
+  pub well : WellFormed b
+  pub arriving : Arriving t e (entriesOf b)
+
+-- an arrival, or what is left of it, with room for the reports of x
+pub record Arrives (x : Ran (List Entry) Report) (t : Terms) (e : Entry) (b : Book) (room : List ℕ) (n : ℕ) : Type 0 where
+  pub enters : Enters t e b
+  pub roomy : Roomy room n (x .records)
+
+pub record TakesOn (t : Terms) (e : Entry) (b : Book) (left : ℕ) (room : List ℕ) (n : ℕ) : Type 0 where
+  pub well : WellFormed b
+  pub whole : left ≡ e .quantity
+  pub roomy : Roomy room n (took (marketOf t) e (entriesOf b) .records)
+
+pub record Rests (t : Terms) (e : Entry) (b : Book) (left : ℕ) (room : List ℕ) (n : ℕ) : Type 0 where
+  pub posts : Posts t e b
+  pub space : b .count < 64
+  pub roomy : Roomy room n (posted t e left (entriesOf b) .records)
+
+pub record Finishes (t : Terms) (e : Entry) (b : Book) (left : ℕ) (room : List ℕ) (n : ℕ) : Type 0 where
+  pub posts : Posts t e b
+  pub space : b .count < 64
+  pub roomy : Roomy room n (finished t e left (stopFor t e (entriesOf b)) (entriesOf b) .records)

@@ -1,0 +1,6 @@
+pub mod Terms
+pub mod Cancel
+pub mod Take
+pub mod Post
+pub mod Arrive
+pub mod Asks

@@ -1,0 +1,56 @@
+-- "What is left posts, unless, first that applies: 20, .. 21, .. 23, .. 22".
+-- Assumes nothing.
+use Prim.Native.Nat.{ℕ, _≤_}
+use mathlib.Core.Bool.{Bool, true, false, cond, _&&_}
+use mathlib.Core.List.{List}
+use lib.Dec.{eqb}
+use Rattle.prices.specs.declared.Prices.{Prices}
+use Rattle.prices.specs.Side.{away}
+use Rattle.prices.specs.Aims.{sliding, aims, Bounds}
+use Rattle.prices.specs.Post.{stopped}
+use Rattle.book.specs.declared.Entry.{Entry}
+use Rattle.book.specs.declared.Pricing.{Pricing}
+use Rattle.book.specs.declared.Pricing.the-variants.{Fixed, Dark, Sliding}
+use Rattle.book.specs.declared.Book.{Book}
+use Rattle.book.specs.Shape.{entriesOf, WellFormed}
+use Rattle.book.specs.Look.{contra, hiddenWithin}
+use Rattle.arrival.specs.declared.Terms.{Terms}
+use Rattle.arrival.specs.Terms.{marketOf}
+
+-- "On arrival it takes the aims"; what does not slide displays (or not) and works at the limit
+abbrev pub pricesOf : Terms → Entry → List Entry → Prices
+pricesOf t e l =
+    cond (sliding (e .kind))
+    (aims (t .m) (e .kind) (e .sell) (e .limit) (away (marketOf t) (e .sell)) (contra (e .sell) l))
+    (record { display = e .limit; working = e .limit })
+
+abbrev pub pricingOf : ℕ → ℕ → Pricing
+pricingOf kind display = cond (sliding kind) (Sliding display) (cond (eqb kind 6) Dark Fixed)
+
+-- the entry as it rests, with what is left
+abbrev pub resting : Entry → ℕ → Prices → Entry
+resting e left p = record {
+  number = e .number;
+  party = e .party;
+  kind = e .kind;
+  sell = e .sell;
+  limit = e .limit;
+  quantity = left;
+  working = p .working;
+  pricing = pricingOf (e .kind) (p .display);
+}
+
+-- "21, MMLO and an undisplayed sell works at L or less"
+abbrev pub bars21 : Entry → List Entry → Bool
+bars21 e l = eqb (e .kind) 2 && hiddenWithin (e .sell) (e .limit) l
+
+-- why what is left may not rest; 0 if it may
+unfoldable pub stopFor : Terms → Entry → List Entry → ℕ
+stopFor t e l =
+    stopped (t .m) (t .k) (e .kind) (e .sell) (e .limit) (away (marketOf t) (e .sell)) (bars21 e l) (pricesOf t e l .display)
+
+-- what the functions ask of their callers: a well-formed book of sound entries, and K as setup allows it
+pub record Posts (t : Terms) (e : Entry) (b : Book) : Type 0 where
+  pub well : WellFormed b
+  pub steps : t .k ≤ 100
+  pub bounds : Bounds (t .m) (away (marketOf t) (e .sell)) (contra (e .sell) (entriesOf b))

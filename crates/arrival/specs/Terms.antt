@@ -1,0 +1,13 @@
+-- What the rules read off a series' numbers.
+-- Assumes nothing.
+use Prim.Native.Nat.{ℕ}
+use mathlib.Core.Bool.{Bool}
+use Rattle.prices.specs.declared.Market.{Market}
+use Rattle.prices.specs.declared.Guard.{Guard}
+use Rattle.arrival.specs.declared.Terms.{Terms}
+
+abbrev pub marketOf : Terms → Market
+marketOf t = record { m = t .m; bid = t .bid; offer = t .offer }
+
+abbrev pub guardOf : Terms → Guard
+guardOf t = record { put = t .put; exempt = t .exempt; strike = t .strike; underlying = t .underlying }

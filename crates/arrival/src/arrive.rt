@@ -1,0 +1,202 @@
+// Arrival of a quote or an order.
+use crate::Terms;
+use crate::cancel::cut_quote;
+use crate::post::market_of;
+use crate::post::prices_of;
+use crate::post::rest_of;
+use crate::post::stop_for;
+use crate::take::bound_of;
+use crate::take::next_trade;
+use crate::take::take_all;
+use book::Book;
+use book::Entry;
+use book::change::posted as post_entry;
+use book::entries::is_quote;
+use book::entries::kind_of;
+use book::look::national_price;
+use prices::Guard;
+use prices::aims::is_minding;
+use prices::protect::protection_of;
+use prices::side::away_of;
+use settle::room::put;
+use settle::tell::tell_cancelled;
+use settle::tell::tell_rejected;
+use settle::tell::tell_rested;
+ghost use mathlib.Core.Path.{_≡_};
+ghost use mathlib.Core.Bool.{not};
+ghost use Rattle.book.specs.Shape.{entriesOf};
+ghost use Rattle.settling.specs.Stage.{Staged};
+ghost use Rattle.arrival.specs.Terms.{guardOf, marketOf};
+ghost use Rattle.arrival.specs.Take.{took};
+ghost use Rattle.arrival.specs.Post.{stopFor};
+ghost use Rattle.arrival.specs.Arrive.{noneTraded, protectionFor, stopsAtOnce, rejection, rejectedBy, replaced, posted, remainder, cancelledRest, finished, entered, arrived};
+ghost use Rattle.arrival.specs.Cancel.{Asks};
+ghost use Rattle.arrival.specs.Asks.{Enters, Finishes, Rests, TakesOn, TookAs, Arrives};
+
+fn guard_of(t: Terms) -> Guard
+    ensures { λ r. ⌜ r ≡ guardOf t ⌝ }
+{
+    Guard {
+        put: t.put,
+        exempt: t.exempt,
+        strike: t.strike,
+        underlying: t.underlying,
+    }
+}
+
+// Price protection, for quotes only: the reason to reject, or 0.
+pub fn protection_for(b: Book, t: Terms, e: Entry) -> u32
+    requires { ⌜ Enters t e b ⌝ }
+    ensures { λ r. ⌜ r ≡ protectionFor t e (entriesOf b) ⌝ }
+{
+    if !is_quote(e) {
+        return 0;
+    }
+    let away = away_of(market_of(t), e.sell);
+    let best = national_price(b, e.sell, away);
+    protection_of(guard_of(t), e.sell, best, e.limit)
+}
+
+// Whether it would trade at all.
+fn is_trading(b: Book, t: Terms, e: Entry) -> bool
+    requires { ⌜ Enters t e b ⌝ }
+    ensures { λ r. ⌜ r ≡ not (noneTraded (took (marketOf t) e (entriesOf b) .records)) ⌝ }
+{
+    if is_minding(kind_of(e)) {
+        return false;
+    }
+    let next = next_trade(b, e, bound_of(market_of(t), e), e.quantity);
+    next.going
+}
+
+// A quote that is stopped before it trades: the reason to reject, or 0.
+fn stops_at_once(b: Book, t: Terms, e: Entry) -> u32
+    requires { ⌜ Enters t e b ⌝ }
+    ensures { λ r. ⌜ r ≡ stopsAtOnce t e (entriesOf b) ⌝ }
+{
+    if !is_quote(e) {
+        return 0;
+    }
+    if is_trading(b, t, e) {
+        return 0;
+    }
+    stop_for(b, t, e)
+}
+
+// Why it is rejected, or 0.
+pub fn rejection_of(b: Book, t: Terms, e: Entry) -> u32
+    requires { ⌜ Enters t e b ⌝ }
+    ensures { λ r. ⌜ r ≡ rejection t e (entriesOf b) ⌝ }
+{
+    let why = protection_for(b, t, e);
+    if why != 0 {
+        return why;
+    }
+    stops_at_once(b, t, e)
+}
+
+// It is rejected, and the maker's quotes that go with it are cancelled.
+pub fn reject(b: Book, e: Entry, why: u32, room: &mut [u8], n: &mut usize) -> Book
+    requires { ⌜ Asks (rejectedBy why e (entriesOf b)) b (now room) (now n) ⌝ }
+    ensures { λ r. ⌜ Staged (rejectedBy why e (entriesOf b)) (now (room .entry)) (now (n .entry)) r (now (room .exit)) (now (n .exit)) ⌝ }
+{
+    let report = tell_rejected(why, e);
+    put(room, n, report);
+    if (why == 25) | (why == 26) {
+        let c = cut_quote(b, e.party, false, 30, room, n);
+        return cut_quote(c, e.party, true, 30, room, n);
+    }
+    cut_quote(b, e.party, e.sell, 30, room, n)
+}
+
+// The quote that it replaces goes.
+fn replace(b: Book, e: Entry, room: &mut [u8], n: &mut usize) -> Book
+    requires { ⌜ Asks (replaced e (entriesOf b)) b (now room) (now n) ⌝ }
+    ensures { λ r. ⌜ Staged (replaced e (entriesOf b)) (now (room .entry)) (now (n .entry)) r (now (room .exit)) (now (n .exit)) ⌝ }
+{
+    if is_quote(e) {
+        return cut_quote(b, e.party, e.sell, 27, room, n);
+    }
+    b
+}
+
+// What is left rests, last in rank.
+fn post_rest(b: Book, t: Terms, e: Entry, left: u32, room: &mut [u8], n: &mut usize) -> Book
+    requires { ⌜ Rests t e b left (now room) (now n) ⌝ }
+    ensures { λ r. ⌜ Staged (posted t e left (entriesOf b)) (now (room .entry)) (now (n .entry)) r (now (room .exit)) (now (n .exit)) ⌝ }
+{
+    let rests = rest_of(e, left, prices_of(b, t, e));
+    let report = tell_rested(rests);
+    put(room, n, report);
+    post_entry(b, rests)
+}
+
+fn remainder_of(e: Entry, left: u32) -> Entry
+    ensures { λ r. ⌜ r ≡ remainder e left ⌝ }
+{
+    let mut rest = e;
+    rest.quantity = left;
+    rest
+}
+
+// What is left is cancelled, and with it the maker's opposite quote.
+fn cancel_rest(b: Book, e: Entry, left: u32, why: u32, room: &mut [u8], n: &mut usize) -> Book
+    requires { ⌜ Asks (cancelledRest why e left (entriesOf b)) b (now room) (now n) ⌝ }
+    ensures { λ r. ⌜ Staged (cancelledRest why e left (entriesOf b)) (now (room .entry)) (now (n .entry)) r (now (room .exit)) (now (n .exit)) ⌝ }
+{
+    let report = tell_cancelled(why, remainder_of(e, left));
+    put(room, n, report);
+    if is_quote(e) {
+        return cut_quote(b, e.party, !e.sell, 29, room, n);
+    }
+    b
+}
+
+// The end of an arrival that was not rejected.
+fn finish(b: Book, t: Terms, e: Entry, left: u32, room: &mut [u8], n: &mut usize) -> Book
+    requires { ⌜ Finishes t e b left (now room) (now n) ⌝ }
+    ensures { λ r. ⌜ Staged (finished t e left (stopFor t e (entriesOf b)) (entriesOf b)) (now (room .entry)) (now (n .entry)) r (now (room .exit)) (now (n .exit)) ⌝ }
+{
+    if left == 0 {
+        return b;
+    }
+    let why = stop_for(b, t, e);
+    if why == 0 {
+        return post_rest(b, t, e, left, room, n);
+    }
+    cancel_rest(b, e, left, why, room, n)
+}
+
+// Trades, but for a kind that only adds.
+fn take(b: Book, t: Terms, e: Entry, left: &mut u32, room: &mut [u8], n: &mut usize) -> Book
+    requires { ⌜ TakesOn t e b (now left) (now room) (now n) ⌝ }
+    ensures { λ r. ⌜ TookAs (took (marketOf t) e (entriesOf b)) (now (room .entry)) (now (n .entry)) r (now (left .exit)) (now (room .exit)) (now (n .exit)) ⌝ }
+{
+    if is_minding(kind_of(e)) {
+        return b;
+    }
+    take_all(b, e, bound_of(market_of(t), e), left, room, n)
+}
+
+// The quote it replaces goes; trades; what is left rests or is cancelled.
+fn enter(b: Book, t: Terms, e: Entry, room: &mut [u8], n: &mut usize) -> Book
+    requires { ⌜ Arrives (entered t e (entriesOf b)) t e b (now room) (now n) ⌝ }
+    ensures { λ r. ⌜ Staged (entered t e (entriesOf b)) (now (room .entry)) (now (n .entry)) r (now (room .exit)) (now (n .exit)) ⌝ }
+{
+    let c = replace(b, e, room, n);
+    let mut left = e.quantity;
+    let d = take(c, t, e, &mut left, room, n);
+    finish(d, t, e, left, room, n)
+}
+
+// The arrival of a quote or an order, before settling.
+pub fn arrive(b: Book, t: Terms, e: Entry, room: &mut [u8], n: &mut usize) -> Book
+    requires { ⌜ Arrives (arrived t e (entriesOf b)) t e b (now room) (now n) ⌝ }
+    ensures { λ r. ⌜ Staged (arrived t e (entriesOf b)) (now (room .entry)) (now (n .entry)) r (now (room .exit)) (now (n .exit)) ⌝ }
+{
+    let why = rejection_of(b, t, e);
+    if why != 0 {
+        return reject(b, e, why, room, n);
+    }
+    enter(b, t, e, room, n)
+}

@@ -1,0 +1,20 @@
+// What a message does to the book: arrival of quotes and orders, cancelling, phases. Each stage writes its reports to the lent room.
+pub mod arrive;
+pub mod cancel;
+pub mod post;
+pub mod sweep;
+pub mod take;
+
+// The numbers of a series.
+pub struct Terms {
+    pub put: bool,
+    pub exempt: bool,
+    pub m: u32,
+    pub k: u32,
+    pub strike: u32,
+    pub phase: u32,
+    pub bid: u32,
+    pub offer: u32,
+    pub underlying: u32,
+    pub given: u32,
+}

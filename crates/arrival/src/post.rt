@@ -1,0 +1,118 @@
+// Whether and how what is left of an arriving entry rests.
+use crate::Terms;
+use book::Book;
+use book::Entry;
+use book::Pricing;
+use book::entries::kind_of;
+use book::look::contra_price;
+use book::look::is_hidden_within;
+use prices::Market;
+use prices::Prices;
+use prices::aims::aims_of;
+use prices::aims::is_minding;
+use prices::aims::is_sliding;
+use prices::post::stop_of;
+use prices::side::away_of;
+ghost use mathlib.Core.Path.{_≡_};
+ghost use Rattle.prices.specs.Aims.{minded};
+ghost use Rattle.book.specs.Shape.{entriesOf, WellFormed};
+ghost use Rattle.book.specs.Look.{contra};
+ghost use Rattle.arrival.specs.Terms.{marketOf};
+ghost use Rattle.arrival.specs.Post.{pricesOf, pricingOf, resting, bars21, stopFor, Posts};
+
+pub fn market_of(t: Terms) -> Market
+    ensures { λ r. ⌜ r ≡ marketOf t ⌝ }
+{
+    Market {
+        m: t.m,
+        bid: t.bid,
+        offer: t.offer,
+    }
+}
+
+// The contra price, where the kind minds it.
+fn contra_for(b: Book, e: Entry) -> u32
+    requires { ⌜ WellFormed b ⌝ }
+    ensures { λ r. ⌜ r ≡ minded (e .kind) (contra (e .sell) (entriesOf b)) ⌝ }
+{
+    if is_minding(kind_of(e)) {
+        return contra_price(b, e.sell);
+    }
+    0
+}
+
+// The prices at which it would rest.
+pub fn prices_of(b: Book, t: Terms, e: Entry) -> Prices
+    requires { ⌜ Posts t e b ⌝ }
+    ensures { λ r. ⌜ r ≡ pricesOf t e (entriesOf b) ⌝ }
+{
+    let kind = kind_of(e);
+    if is_sliding(kind) {
+        let away = away_of(market_of(t), e.sell);
+        let contra = contra_for(b, e);
+        return aims_of(t.m, kind, e.sell, e.limit, away, contra);
+    }
+    Prices {
+        display: e.limit,
+        working: e.limit,
+    }
+}
+
+fn pricing_of(kind: u32, display: u32) -> Pricing
+    ensures { λ r. ⌜ r ≡ pricingOf kind display ⌝ }
+{
+    if is_sliding(kind) {
+        return Pricing::Sliding(display);
+    }
+    if kind == 6 {
+        return Pricing::Dark;
+    }
+    Pricing::Fixed
+}
+
+// The entry as it rests, with what is left.
+pub fn rest_of(e: Entry, left: u32, p: Prices) -> Entry
+    ensures { λ r. ⌜ r ≡ resting e left p ⌝ }
+{
+    let pricing = pricing_of(kind_of(e), p.display);
+    Entry {
+        number: e.number,
+        party: e.party,
+        kind: e.kind,
+        sell: e.sell,
+        limit: e.limit,
+        quantity: left,
+        working: p.working,
+        pricing,
+    }
+}
+
+fn is_barred_21(b: Book, e: Entry) -> bool
+    requires { ⌜ WellFormed b ⌝ }
+    ensures { λ r. ⌜ r ≡ bars21 e (entriesOf b) ⌝ }
+{
+    if e.kind == 2 {
+        return is_hidden_within(b, e.sell, e.limit);
+    }
+    false
+}
+
+// The reason why it may not rest, or 0.
+pub fn stop_for(b: Book, t: Terms, e: Entry) -> u32
+    requires { ⌜ Posts t e b ⌝ }
+    ensures { λ r. ⌜ r ≡ stopFor t e (entriesOf b) ⌝ }
+{
+    let p = prices_of(b, t, e);
+    let hidden = is_barred_21(b, e);
+    let away = away_of(market_of(t), e.sell);
+    stop_of(
+        t.m,
+        t.k,
+        kind_of(e),
+        e.sell,
+        e.limit,
+        away,
+        hidden,
+        p.display,
+    )
+}

@@ -1,0 +1,99 @@
+// Trades on arrival.
+use book::Book;
+use book::Entry;
+use book::Rank;
+use book::change::taken as hit_at;
+use book::entries::zero_entry;
+use book::look::best_contra;
+use prices::Market;
+use prices::aims::held_to;
+use prices::aims::is_minding;
+use prices::side::away_of;
+use prices::side::is_reaching;
+use settle::room::put;
+use settle::tell::tell_traded;
+ghost use mathlib.Core.Path.{_≡_};
+ghost use mathlib.Core.Bool.{false};
+ghost use Prim.Native.Nat.{min};
+ghost use Rattle.book.specs.Shape.{WellFormed};
+ghost use Rattle.arrival.specs.Take.{bound, shownOnly, taken};
+ghost use Rattle.arrival.specs.Asks.{Takes, TookAs, takingOf, NextTrade};
+
+// The lesser of the limit and the away price: no trade goes beyond it.
+pub fn bound_of(market: Market, e: Entry) -> u32
+    ensures { λ r. ⌜ r ≡ bound market e ⌝ }
+{
+    held_to(e.sell, away_of(market, e.sell), e.limit)
+}
+
+pub fn is_shown_only(e: Entry) -> bool
+    ensures { λ r. ⌜ r ≡ shownOnly e ⌝ }
+{
+    e.kind == 2
+}
+
+pub fn smaller(a: u32, b: u32) -> u32
+    ensures { λ r. ⌜ r ≡ min a b ⌝ }
+{
+    if a < b { a } else { b }
+}
+
+// A trade to come: with the entry at a place, for so many contracts.
+pub struct Trade {
+    pub going: bool,
+    pub at: usize,
+    pub entry: Entry,
+    pub quantity: u32,
+}
+
+fn no_trade() -> Trade
+    ensures { λ r. ⌜ (r .going ≡ false) × (r .quantity ≡ 0) ⌝ }
+{
+    let entry = zero_entry();
+    Trade {
+        going: false,
+        at: 0,
+        entry,
+        quantity: 0,
+    }
+}
+
+// The next trade of a taker with so much left.
+pub fn next_trade(b: Book, e: Entry, cap: u32, left: u32) -> Trade
+    requires { ⌜ WellFormed b ⌝ }
+    ensures { λ r. ⌜ NextTrade cap e (takingOf left b) r ⌝ }
+{
+    let best = best_contra(b, e.sell, is_shown_only(e));
+    let Rank::At(at) = best else {
+        return no_trade();
+    };
+    let entry = b.entries[at];
+    if (left == 0) | !is_reaching(e.sell, cap, entry.working) {
+        return no_trade();
+    }
+    Trade {
+        going: true,
+        at,
+        entry,
+        quantity: smaller(left, entry.quantity),
+    }
+}
+
+// Takes the best, again and again, as far as the bound reaches and something is left.
+pub fn take_all(b: Book, e: Entry, cap: u32, left: &mut u32, room: &mut [u8], n: &mut usize) -> Book
+    requires { ⌜ Takes (taken cap e (takingOf (now left) b)) b (now room) (now n) ⌝ }
+    ensures { λ r. ⌜ TookAs (taken cap e (takingOf (now (left .entry)) b)) (now (room .entry)) (now (n .entry)) r (now (left .exit)) (now (room .exit)) (now (n .exit)) ⌝ }
+{
+    let mut c = b;
+    loop {
+        let next = next_trade(c, e, cap, *left);
+        if !next.going {
+            return c;
+        }
+        let y = next.entry;
+        let report = tell_traded(e, y, next.quantity);
+        put(room, n, report);
+        c = hit_at(c, next.at, next.quantity);
+        *left = *left - next.quantity;
+    }
+}
