@@ -1,0 +1,167 @@
+-- WHAT AN ACCEPTED MESSAGE GIVES, said of `handled` for every series, message and room: its reports stand at the front of the room and nowhere else, and are read
+-- back from there; they are at most 2,280; settling took at most N(N+5)/2 steps, with one report each, and left nothing to do; and what is answered in a run.
+-- Assumes nothing.
+use Prim.Native.Nat.{ℕ, _+_, _*_, _≤_, _<_}
+use mathlib.Core.Path.{_≡_, refl, sym, subst, ap, _∙_}
+use mathlib.Core.Bool.{Bool, true, false, cond}
+use mathlib.Core.List.{List, [], _++_, map}
+use mathlib.Core.Option.{Option, none, some}
+use native.Mathlib.Omega.{arith}
+use lib.Dec.{eqb}
+use lib.ListN.{length, take, drop, length-append, length-drop}
+use lib.Seq.{take-at, drop-append-seam}
+use borrow.Author.Tests.{eq-eqb}
+use Rattle.lists.specs.Places.{At}
+use Rattle.lists.specs.Run.{stop, Ran, still}
+use Rattle.packing.specs.declared.message.Event.{Event}
+use Rattle.packing.specs.declared.report.Report.{Report}
+use Rattle.packing.specs.Codec.{unpackOf}
+use Rattle.packing.specs.Message.{messages, messageAt}
+use Rattle.packing.specs.Room.{packedAll, written, readBack}
+use Rattle.packing.proofs.CodecLaws.{unpack-other, unpack-short}
+use Rattle.packing.proofs.RoomLaws.{written-parts, reports-read-back}
+use Rattle.book.specs.declared.Entry.{Entry}
+use Rattle.book.specs.Shape.{entriesOf}
+use Rattle.book.proofs.ShapeLaws.{entries-of-book}
+use Rattle.settling.specs.Settle.{easing, stirring, nextEase, nextStir, settled}
+use Rattle.settling.proofs.Settles.{Settled, settles}
+use Rattle.arrival.specs.Terms.{marketOf}
+use Rattle.series.specs.declared.Series.{Series}
+use Rattle.series.specs.Series.{soundSeries}
+use Rattle.handler.specs.declared.Ask.{Ask}
+use Rattle.handler.specs.Asked.{askOf}
+use Rattle.handler.specs.Accept.{own, termsAfter, settledIf, done, seriesAfter}
+use Rattle.handler.specs.Handle.{Handled, refused, accepted, handled, handledAt}
+use Rattle.handler.proofs.Ways.{Accepting, accepting, handled-nothing, handled-accepted}
+use Rattle.handler.proofs.Passed.{Accepted, accepts}
+use Rattle.handler.proofs.Accepted.{own-sound, done-part}
+
+-- ---- the reports of a message ----
+
+-- its own part, and settling behind it
+abbrev pub ownOf : Series → Ask → Ran (List Entry) Report
+ownOf s a = own (s .terms) a (entriesOf (s .book))
+
+abbrev pub settlingOf : Series → Ask → Ran (List Entry) Report
+settlingOf s a = settledIf (termsAfter (s .terms) a) (ownOf s a .final)
+
+abbrev pub reportsOf : Series → Option Event → List Report
+reportsOf s none = []
+reportsOf s (some e) = done (s .terms) (askOf e) (entriesOf (s .book)) .records
+
+module _ (s : Series) (message room : List ℕ) (zero : handled s message room .answer .refusal ≡ 0) where
+  way : Accepting s message room
+  way = accepting s message room zero
+
+  ok : Accepted s (askOf (way .event))
+  ok = accepts s (way .event) (way .sound) (way .passes)
+
+  answer-is : handled s message room ≡ accepted s (askOf (way .event)) room
+  answer-is = handled-accepted s message room (way .space) (way .sound) (way .event) (way .read) (way .passes)
+
+  reports-are : reportsOf s (unpackOf messages message) ≡ reportsOf s (some (way .event))
+  reports-are = ap (reportsOf s) (way .read)
+
+  fits : 14 * (0 + length (reportsOf s (unpackOf messages message))) ≤ length room
+  fits = omega (arith, ap length reports-are, done-part s (askOf (way .event)) ok .few, way .space)
+
+  -- one counted report for each that the definition has
+  pub reports-counted : handled s message room .answer .count ≡ length (reportsOf s (unpackOf messages message))
+  reports-counted = ap (λ (h : Handled). h .answer .count) answer-is ∙ ap length (sym reports-are)
+
+  -- "An accepted message writes its counted reports at the front of the room and no byte beyond."
+  pub reports-in-front : handled s message room .room
+      ≡ packedAll (reportsOf s (unpackOf messages message)) ++ drop (14 * handled s message room .answer .count) room
+  reports-in-front =
+      let size : 14 * (0 + length (reportsOf s (unpackOf messages message))) ≡ 14 * handled s message room .answer .count = omega (arith, reports-counted) in
+      ap (λ (h : Handled). h .room) answer-is ∙ ap (written room 0) (sym reports-are)
+      ∙ written-parts room 0 (reportsOf s (unpackOf messages message)) fits
+      ∙ ap (λ (n : ℕ). packedAll (reportsOf s (unpackOf messages message)) ++ drop n room) size
+
+  -- EACH REPORT UNPACKS TO THE DEFINITION'S
+  pub reports-told : readBack (handled s message room .answer .count) (handled s message room .room) ≡ map some (reportsOf s (unpackOf messages message))
+  reports-told =
+      ap (λ (h : Handled). readBack (h .answer .count) (h .room)) answer-is
+      ∙ reports-read-back room 0 (reportsOf s (some (way .event))) (done-part s (askOf (way .event)) ok .fit)
+      (omega (arith, done-part s (askOf (way .event)) ok .few, way .space))
+      ∙ ap (map some) (sym reports-are)
+
+  -- "2,280 reports of 14": THE ROOM IS ENOUGH
+  pub room-enough : handled s message room .answer .count ≤ 2280
+  room-enough = omega (arith, ap (λ (h : Handled). h .answer .count) answer-is, done-part s (askOf (way .event)) ok .few)
+
+-- ---- demand 3 ----
+
+-- of an answer h to what a asks of the series s; N is the number of entries that rest after the message's own part
+pub record Demand3 (s : Series) (a : Ask) (h : Handled) : Type 0 where
+  -- at most N(N+5)/2 steps of settling
+  pub steps : 2 * length (settlingOf s a .records) ≤ length (ownOf s a .final) * (length (ownOf s a .final) + 5)
+  -- one report each, behind those of the message's own part
+  pub count : h .answer .count ≡ length (ownOf s a .records) + length (settlingOf s a .records)
+  -- in an open series settling is done to its end: it is the whole run of easing, and behind it the whole run of trades and moves
+  pub whole : h .answer .series .terms .phase ≡ 1 → settlingOf s a ≡ settled (marketOf (h .answer .series .terms)) (ownOf s a .final)
+  -- afterwards no entry is marketable, off its resting prices, or to be eased
+  pub calm : h .answer .series .terms .phase ≡ 1 → (i : ℕ) (x : Entry) → At (entriesOf (h .answer .series .book)) i x
+      → stirring (marketOf (h .answer .series .terms)) (entriesOf (h .answer .series .book)) x ≡ false
+  pub uneased : h .answer .series .terms .phase ≡ 1 → (i : ℕ) (x : Entry) → At (entriesOf (h .answer .series .book)) i x
+      → easing (marketOf (h .answer .series .terms)) x ≡ false
+  pub stirs-no-more : h .answer .series .terms .phase ≡ 1 → nextStir (marketOf (h .answer .series .terms)) (entriesOf (h .answer .series .book)) ≡ stop
+  pub eases-no-more : h .answer .series .terms .phase ≡ 1 → nextEase (marketOf (h .answer .series .terms)) (entriesOf (h .answer .series .book)) ≡ stop
+
+module _ (s : Series) (a : Ask) (acc : Accepted s a) (room : List ℕ) where
+  after : Settled (marketOf (termsAfter (s .terms) a)) (ownOf s a .final) (termsAfter (s .terms) a .given)
+  after = settles (own-sound s a acc)
+
+  open-settled : termsAfter (s .terms) a .phase ≡ 1 → settlingOf s a ≡ settled (marketOf (termsAfter (s .terms) a)) (ownOf s a .final)
+  open-settled p = rw (eq-eqb (termsAfter (s .terms) a .phase) 1 p)
+
+  left : termsAfter (s .terms) a .phase ≡ 1 → settled (marketOf (termsAfter (s .terms) a)) (ownOf s a .final) .final ≡ entriesOf (seriesAfter s a .book)
+  unfolding done
+  left p = sym (entries-of-book (settlingOf s a .final) ∙ ap (λ (x : Ran (List Entry) Report). x .final) (open-settled p))
+
+  demand-3-of : Demand3 s a (accepted s a room)
+  unfolding done still
+  demand-3-of = record {
+    steps = few (eqb (termsAfter (s .terms) a .phase) 1) refl;
+    count = length-append (ownOf s a .records) (settlingOf s a .records);
+    whole = open-settled;
+    calm = λ p. subst (λ (l : List Entry). (i : ℕ) (x : Entry) → At l i x → stirring (marketOf (termsAfter (s .terms) a)) l x ≡ false) (left p) (after .calm);
+    uneased = λ p. subst (λ (l : List Entry). (i : ℕ) (x : Entry) → At l i x → easing (marketOf (termsAfter (s .terms) a)) x ≡ false) (left p) (after .uneased);
+    stirs-no-more = λ p. subst (λ (l : List Entry). nextStir (marketOf (termsAfter (s .terms) a)) l ≡ stop) (left p) (after .stirs-no-more);
+    eases-no-more = λ p. subst (λ (l : List Entry). nextEase (marketOf (termsAfter (s .terms) a)) l ≡ stop) (left p) (after .eases-no-more);
+  }
+    where
+      few : (b : Bool) → eqb (termsAfter (s .terms) a .phase) 1 ≡ b
+          → 2 * length ((cond b (settled (marketOf (termsAfter (s .terms) a)) (ownOf s a .final)) (still (ownOf s a .final))) .records)
+          ≤ length (ownOf s a .final) * (length (ownOf s a .final) + 5)
+      few true q = after .steps
+      few false q = omega arith
+
+-- DEMAND 3, for every sound series and accepted message
+pub demand-3 : (s : Series) (message room : List ℕ) (e : Event) → unpackOf messages message ≡ some e → handled s message room .answer .refusal ≡ 0
+    → Demand3 s (askOf e) (handled s message room)
+demand-3 s message room e read h =
+    let w : Accepting s message room = accepting s message room h in
+    let same : w .event ≡ e = (let z : some (w .event) ≡ some e = sym (w .read) ∙ read in cc) in
+    subst (λ (x : Event). Demand3 s (askOf x) (handled s message room)) same
+    (subst (Demand3 s (askOf (w .event))) (sym (handled-accepted s message room (w .space) (w .sound) (w .event) (w .read) (w .passes)))
+    (demand-3-of s (askOf (w .event)) (accepts s (w .event) (w .sound) (w .passes)) room))
+
+-- ---- a message in a long run ----
+
+-- WHAT IS ANSWERED AT A PLACE OF A RUN is what is answered for the 11 bytes that stand there
+pub handled-at : (s : Series) (front message rest room : List ℕ) → length message ≡ 11
+    → handledAt s (front ++ (message ++ rest)) (length front) room ≡ handled s message room
+handled-at s front message rest room n =
+    ap (λ (l : List ℕ). handled s l room) (ap (take 11) (drop-append-seam front (message ++ rest)) ∙ take-at message rest 11 n)
+
+-- "a place with fewer than 11 bytes from it to the run's end holds a message of wrong length"
+pub handled-at-end : (s : Series) (run : List ℕ) (at : ℕ) (room : List ℕ) → 31920 ≤ length room → soundSeries s ≡ true → length run < at + 11
+    → handledAt s run at room ≡ refused 1 s room
+handled-at-end s run at room space sound h =
+    handled-nothing s (messageAt run at) room space sound (unpack-short messages (drop at run) (simp length-drop (omega arith)))
+
+-- "length not 11"
+pub handled-length : (s : Series) (message room : List ℕ) → 31920 ≤ length room → soundSeries s ≡ true → (length message ≡ 11 → ⊥)
+    → handled s message room ≡ refused 1 s room
+handled-length s message room space sound h = handled-nothing s message room space sound (unpack-other messages message h)

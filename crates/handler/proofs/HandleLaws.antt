@@ -1,0 +1,139 @@
+-- What the handler's code comes to, test by test and stage by stage.
+-- Assumes nothing.
+use Prim.Native.Nat.{ℕ, _+_, _-_, _≤_, _<_}
+use mathlib.Core.Path.{_≡_, refl, sym, ap, _∙_, subst}
+use mathlib.Core.Bool.{Bool, true, false, cond, not, _&&_, _||_}
+use mathlib.Core.List.{List}
+use native.Mathlib.Omega.{arith}
+use lib.Dec.{eqb, leb}
+use lib.ListN.{length}
+use borrow.Author.Tests.{leb-true, leb-false, le-leb, lt-leb, eq-eqb, ne-eqb, eqb-true, not-false}
+use Rattle.lists.specs.Choose.{Found, nowhere, found}
+use Rattle.lists.specs.Tests.{any}
+use Rattle.lists.proofs.Bools.{clash, and-left, and-right}
+use Rattle.checking.specs.Summary.{isFound}
+use Rattle.checking.proofs.SummaryLaws.{any-quote}
+use Rattle.book.specs.declared.Entry.{Entry}
+use Rattle.book.specs.declared.Book.{Book}
+use Rattle.book.specs.Shape.{entriesOf, WellFormed}
+use Rattle.book.specs.Entries.{quoteOf}
+use Rattle.book.specs.Look.{rankOf, quoteIn}
+use Rattle.sound.specs.Sound.{between}
+use Rattle.arrival.specs.declared.Terms.{Terms}
+use Rattle.arrival.specs.Arrive.{rejection, bothQuotes, blocks}
+use Rattle.arrival.specs.Asks.{Enters}
+use Rattle.series.specs.declared.Series.{Series}
+use Rattle.handler.specs.declared.Ask.{Ask}
+use Rattle.handler.specs.Asked.{enters, quotes}
+use Rattle.handler.specs.Refuse.{makersOnly, badParty, isFull, isNowhere, isMissing, goneAt, refusalOf}
+use Rattle.handler.specs.Accept.{comer, termsAfter}
+use Rattle.handler.specs.Acts.{Whole, Acts}
+use Rattle.handler.proofs.Passed.{Accepted, facts, tests, accepted-arriving}
+
+-- ---- the party ----
+
+inside : (low high x : ℕ) → not (between low high x) ≡ false → (low ≤ x) × (x ≤ high)
+inside low high x h =
+    let k : between low high x ≡ true = not-false (between low high x) h in
+    (leb-true low x (and-left (leb low x) (leb x high) k), leb-true x high (and-right (leb low x) (leb x high) k))
+
+pub maker-party : (a : Ask) → makersOnly a ≡ true → badParty a ≡ false → (1 ≤ a .party) × (a .party ≤ 16)
+maker-party a q h = inside 1 16 (a .party) (rw q at h)
+
+pub any-party : (a : Ask) → a .kind ≤ 8 → badParty a ≡ false → (1 ≤ a .party) × (a .party ≤ 99)
+any-party a k h = by (makersOnly a) refl (leb (a .kind) 7) refl h
+  where
+    by : (b : Bool) → makersOnly a ≡ b → (d : Bool) → leb (a .kind) 7 ≡ d → cond b (not (between 1 16 (a .party))) (cond d (not (between 1 99 (a .party))) false) ≡ false
+        → (1 ≤ a .party) × (a .party ≤ 99)
+    by true q d u g = let p = inside 1 16 (a .party) g in (p .0, omega (arith, p .1))
+    by false q true u g = inside 1 99 (a .party) g
+    by false q false u g = absurd (eight (a .kind) (omega (arith, leb-false (a .kind) 7 u)) q)
+      where
+        eight : (n : ℕ) → n ≡ 8 → (leb n 4 || (eqb n 8 || eqb n 12)) ≡ false → ⊥
+        eight n e z = clash refl (rw e at z)
+
+pub quote-maker : (a : Ask) → a .kind ≤ 4 → makersOnly a ≡ true
+quote-maker a k = rw (le-leb (a .kind) 4 k)
+
+pub enable-maker : (a : Ask) → a .kind ≡ 12 → makersOnly a ≡ true
+enable-maker a k = rw k
+
+-- ---- what is not there ----
+
+pub gone : (f : Found Entry) → goneAt (rankOf f) ≡ isNowhere f
+gone nowhere = refl
+gone (found i e) = refl
+
+unfound : (f : Found Entry) → isNowhere f ≡ not (isFound f)
+unfound nowhere = refl
+unfound (found i e) = refl
+
+pub full-none : (l : List Entry) (a : Ask) → 6 < a .kind → false ≡ isFull l a
+full-none l a h = rw (lt-leb (a .kind) 6 h)
+
+pub full-space : (l : List Entry) (a : Ask) → length l < 64 → false ≡ isFull l a
+full-space l a h = by (enters a)
+  where
+    by : (b : Bool) → false ≡ (b && (leb 64 (length l) && not (quotes a && any (quoteOf (a .party) (a .sell)) l)))
+    by true = rw (lt-leb 64 (length l) h)
+    by false = refl
+
+pub full-order : (l : List Entry) (a : Ask) → a .kind ≤ 6 → 64 ≤ length l → 4 < a .kind → true ≡ isFull l a
+full-order l a k h j = rw (le-leb (a .kind) 6 k, le-leb 64 (length l) h, lt-leb (a .kind) 4 j)
+
+pub full-quote : (l : List Entry) (a : Ask) → 64 ≤ length l → a .kind ≤ 4 → isNowhere (quoteIn (a .party) (a .sell) l) ≡ isFull l a
+full-quote l a h j =
+    rw (le-leb (a .kind) 6 (omega arith), le-leb 64 (length l) h, le-leb (a .kind) 4 j, any-quote (a .party) (a .sell) l)
+    (unfound (quoteIn (a .party) (a .sell) l))
+
+-- ---- the series' numbers ----
+
+module _ (t : Terms) (a : Ask) where
+  ne : (n : ℕ) → (a .kind ≡ n → ⊥) → eqb (a .kind) n ≡ false
+  ne n h = ne-eqb (a .kind) n h
+
+  pub terms-enters : a .kind ≤ 6
+      → _≡_ {A = Terms} (record { put = t .put; exempt = t .exempt; m = t .m; k = t .k; strike = t .strike; phase = t .phase; bid = t .bid; offer = t .offer; underlying = t .underlying; given = t .given + 1 }) (termsAfter t a)
+  unfolding termsAfter
+  terms-enters k = rw (le-leb (a .kind) 6 k, ne 9 (λ e. omega arith), ne 10 (λ e. omega arith), ne 11 (λ e. omega arith))
+
+  pub terms-away : a .kind ≡ 9
+      → _≡_ {A = Terms} (record { put = t .put; exempt = t .exempt; m = t .m; k = t .k; strike = t .strike; phase = t .phase; bid = a .price; offer = a .second; underlying = t .underlying; given = t .given }) (termsAfter t a)
+  unfolding termsAfter
+  terms-away k = rw k
+
+  pub terms-under : a .kind ≡ 10
+      → _≡_ {A = Terms} (record { put = t .put; exempt = t .exempt; m = t .m; k = t .k; strike = t .strike; phase = t .phase; bid = t .bid; offer = t .offer; underlying = a .price; given = t .given }) (termsAfter t a)
+  unfolding termsAfter
+  terms-under k = rw k
+
+  pub terms-phase : a .kind ≡ 11
+      → _≡_ {A = Terms} (record { put = t .put; exempt = t .exempt; m = t .m; k = t .k; strike = t .strike; phase = a .quantity; bid = t .bid; offer = t .offer; underlying = t .underlying; given = t .given }) (termsAfter t a)
+  unfolding termsAfter
+  terms-phase k = rw k
+
+  pub terms-same : 6 < a .kind → (a .kind ≡ 9 → ⊥) → (a .kind ≡ 10 → ⊥) → (a .kind ≡ 11 → ⊥) → t ≡ termsAfter t a
+  unfolding termsAfter
+  terms-same k e f g = rw (lt-leb (a .kind) 6 k, ne 9 e, ne 10 f, ne 11 g)
+
+-- ---- an event that no test refuses ----
+
+pub acts-accepted : {s : Series} {a : Ask} → Acts s a → Accepted s a
+acts-accepted x = record { sound = x .whole .sound; kind = x .kind; passes = x .passes }
+
+module _ {s : Series} {a : Ask} (x : Acts s a) where
+  pub acts-comer : a .kind ≤ 6 → (s .terms .given ≤ 1000000) × ((a .party ≤ 99) × (a .kind ≤ 6))
+  acts-comer k =
+      (facts s a (acts-accepted x) .terms .numbers, (any-party a (omega arith) (tests s a (acts-accepted x) .party) .1, k))
+
+  pub acts-enters : a .kind ≤ 6 → (e : Entry) → e ≡ comer (s .terms .given) a → Enters (s .terms) e (s .book)
+  acts-enters k e q =
+      subst (λ (y : Entry). Enters (s .terms) y (s .book)) (sym q)
+      (record { well = x .whole .well; arriving = accepted-arriving s a (acts-accepted x) (le-leb (a .kind) 6 k) })
+
+pub blocking-quote : (t : Terms) (a : Ask) (l : List Entry) (e : Entry) (why : ℕ) → a .kind ≤ 4 → e ≡ comer (t .given) a → why ≡ rejection t e l
+    → (eqb why 25 || eqb why 26) ≡ (quotes a && blocks t (comer (t .given) a) l)
+unfolding blocks
+blocking-quote t a l e why k q w =
+    ap (λ (n : ℕ). eqb n 25 || eqb n 26) (w ∙ ap (λ (y : Entry). rejection t y l) q)
+    ∙ sym (ap (λ (b : Bool). b && bothQuotes (rejection t (comer (t .given) a) l)) (le-leb (a .kind) 4 k))

@@ -1,0 +1,10 @@
+pub mod Ways
+pub mod Passed
+pub mod Accepted
+pub mod Stages
+pub mod HandleLaws
+pub mod AcceptLaws
+pub mod Refusals
+pub mod Demands
+pub mod Examples
+pub mod Worked

@@ -1,0 +1,198 @@
+-- What it tells that a message met no refusal: the tests that it passed are what arrival asks of a quote or an order, and they keep the series' numbers legal.
+-- Assumes nothing.
+use Prim.Native.Nat.{ℕ, suc, _+_, _≤_, _<_}
+use mathlib.Core.Path.{_≡_, refl}
+use mathlib.Core.Bool.{Bool, true, false, cond, not, _&&_}
+use mathlib.Core.List.{List, [], _∷_}
+use native.Mathlib.Omega.{arith}
+use lib.Dec.{eqb, leb}
+use lib.ListN.{length}
+use borrow.Author.Tests.{leb-true, leb-false, le-leb, eqb-true, not-false}
+use Rattle.prices.specs.Step.{legal, given}
+use Rattle.lists.specs.Tests.{All, any}
+use Rattle.lists.specs.Choose.{Found, nowhere, found}
+use Rattle.lists.specs.Run.{still}
+use Rattle.lists.proofs.Bools.{clash, and-left, and-right, cond-either}
+use Rattle.lists.proofs.TestLaws.{all-of}
+use Rattle.lists.proofs.ChooseLaws.{Tells}
+use Rattle.packing.specs.declared.message.Event.{Event}
+use Rattle.packing.specs.declared.message.Event.the-variants.{Plain, Mmlo, Mmalo, Mmrp, Displayed, Dark, CancelEntry, CancelQuote, Away, Underlying, Phase, Enable}
+use Rattle.book.specs.declared.Entry.{Entry}
+use Rattle.book.specs.Entries.{quoteOf}
+use Rattle.book.specs.Shape.{entriesOf}
+use Rattle.book.specs.Look.{quoteIn}
+use Rattle.book.proofs.LookLaws.{quote-tells}
+use Rattle.sound.specs.Sound.{between}
+use Rattle.arrival.specs.Cancel.{cut, cutQuote}
+use Rattle.arrival.specs.Arrive.{replaced}
+use Rattle.arrival.specs.Asks.{Arriving}
+use Rattle.arrival.proofs.CutLaws.{quote-length}
+use Rattle.series.specs.declared.Series.{Series}
+use Rattle.series.specs.Series.{soundSeries}
+use Rattle.series.proofs.SeriesFacts.{TermsFacts, SeriesFacts, series-facts}
+use Rattle.handler.specs.declared.Ask.{Ask}
+use Rattle.handler.specs.Asked.{askOf, enters, quotes}
+use Rattle.handler.specs.Refuse.{makersOnly, badParty, badPrice, badQuantity, notOpen, isBlocked, isFull, isSpent, isMissing, refusalOf}
+use Rattle.handler.specs.Accept.{comer, termsAfter}
+
+-- ---- the tests that were passed ----
+
+pub record Passed (s : Series) (a : Ask) : Type 0 where
+  pub party : badParty a ≡ false
+  pub price : badPrice (s .terms .m) a ≡ false
+  pub quantity : badQuantity a ≡ false
+  pub opened : notOpen (s .terms .phase) a ≡ false
+  pub free : isBlocked (s .blocked) a ≡ false
+  pub space : isFull (entriesOf (s .book)) a ≡ false
+  pub number : isSpent (s .terms .given) a ≡ false
+  pub there : isMissing (entriesOf (s .book)) a ≡ false
+
+none-holds : (b : Bool) (n x : ℕ) → 1 ≤ n → cond b n x ≡ 0 → (b ≡ false) × (x ≡ 0)
+none-holds true n x k h = absurd (omega arith)
+none-holds false n x k h = (refl, h)
+
+pub passed : (s : Series) (a : Ask) → refusalOf s a ≡ 0 → Passed s a
+unfolding refusalOf
+passed s a h =
+    let l : List Entry = entriesOf (s .book) in
+    let x₈ : ℕ = cond (isMissing l a) 8 0 in
+    let x₉ : ℕ = cond (isSpent (s .terms .given) a) 9 x₈ in
+    let x₇ : ℕ = cond (isFull l a) 7 x₉ in
+    let x₆ : ℕ = cond (isBlocked (s .blocked) a) 6 x₇ in
+    let x₅ : ℕ = cond (notOpen (s .terms .phase) a) 5 x₆ in
+    let x₄ : ℕ = cond (badQuantity a) 4 x₅ in
+    let x₃ : ℕ = cond (badPrice (s .terms .m) a) 3 x₄ in
+    let p₂ = none-holds (badParty a) 2 x₃ (omega arith) h in
+    let p₃ = none-holds (badPrice (s .terms .m) a) 3 x₄ (omega arith) (p₂ .1) in
+    let p₄ = none-holds (badQuantity a) 4 x₅ (omega arith) (p₃ .1) in
+    let p₅ = none-holds (notOpen (s .terms .phase) a) 5 x₆ (omega arith) (p₄ .1) in
+    let p₆ = none-holds (isBlocked (s .blocked) a) 6 x₇ (omega arith) (p₅ .1) in
+    let p₇ = none-holds (isFull l a) 7 x₉ (omega arith) (p₆ .1) in
+    let p₉ = none-holds (isSpent (s .terms .given) a) 9 x₈ (omega arith) (p₇ .1) in
+    let p₈ = none-holds (isMissing l a) 8 0 (omega arith) (p₉ .1) in
+    record { party = p₂ .0; price = p₃ .0; quantity = p₄ .0; opened = p₅ .0; free = p₆ .0; space = p₇ .0; number = p₉ .0; there = p₈ .0 }
+
+-- what an event asks is of kinds 1 to 12
+pub ask-kind : (e : Event) → (1 ≤ askOf e .kind) × (askOf e .kind ≤ 12)
+ask-kind (Plain t) = omega arith
+ask-kind (Mmlo t) = omega arith
+ask-kind (Mmalo t) = omega arith
+ask-kind (Mmrp t) = omega arith
+ask-kind (Displayed t) = omega arith
+ask-kind (Dark t) = omega arith
+ask-kind (CancelEntry party entry) = omega arith
+ask-kind (CancelQuote party sell) = omega arith
+ask-kind (Away bid offer) = omega arith
+ask-kind (Underlying price) = omega arith
+ask-kind (Phase phase) = omega arith
+ask-kind (Enable party) = omega arith
+
+-- A MESSAGE IS ACCEPTED: the series is sound, and no test of a refusal holds
+pub record Accepted (s : Series) (a : Ask) : Type 0 where
+  pub sound : soundSeries s ≡ true
+  pub kind : 1 ≤ a .kind
+  pub passes : refusalOf s a ≡ 0
+
+pub accepts : (s : Series) (e : Event) → soundSeries s ≡ true → refusalOf s (askOf e) ≡ 0 → Accepted s (askOf e)
+accepts s e h k = record { sound = h; kind = ask-kind e .0; passes = k }
+
+-- ---- what the tests say ----
+
+within : (low high x : ℕ) → not (between low high x) ≡ false → (low ≤ x) × (x ≤ high)
+within low high x h =
+    let k : between low high x ≡ true = not-false (between low high x) h in
+    (leb-true low x (and-left (leb low x) (leb x high) k), leb-true x high (and-right (leb low x) (leb x high) k))
+
+-- of a quote that is to be replaced, there is one
+cut-one : (why party : ℕ) (side : Bool) (l : List Entry) → any (quoteOf party side) l ≡ true → length l ≡ suc (length (cutQuote why party side l .final))
+unfolding any cut still
+cut-one why party side l h = at (quoteIn party side l) (quote-tells l party side) (quote-length why party side l)
+  where
+    nobody : (l : List Entry) → All (λ (x : Entry). quoteOf party side x ≡ false) l → any (quoteOf party side) l ≡ false
+    nobody [] a = refl
+    nobody (x ∷ l) a = rw (a .0) (nobody l (a .1))
+
+    at : (f : Found Entry) → Tells (quoteOf party side) (λ _. 0) l f → length (cut why l f .final) + length (cut why l f .records) ≡ length l
+        → length l ≡ suc (length (cut why l f .final))
+    at nowhere c k = clash h (nobody l (all-of (λ (x : Entry). quoteOf party side x ≡ false) l (λ i x z. c .nobody i x z)))
+    at (found i e) c k = omega arith
+
+-- "64 entries rest, not counting the quote this one replaces"
+space-left : (given : ℕ) (l : List Entry) (a : Ask) → length l ≤ 64 → enters a ≡ true → isFull l a ≡ false → length (replaced (comer given a) l .final) < 64
+unfolding still
+space-left given l a size q h = by (leb 64 (length l)) refl (quotes a) refl (any (quoteOf (a .party) (a .sell)) l) refl (rw q at h)
+  where
+    by : (full : Bool) → leb 64 (length l) ≡ full → (b : Bool) → quotes a ≡ b → (c : Bool) → any (quoteOf (a .party) (a .sell)) l ≡ c → (full && not (b && c)) ≡ false
+        → length ((cond b (cutQuote 27 (a .party) (a .sell) l) (still l)) .final) < 64
+    by full u true v true w g = omega (arith, cut-one 27 (a .party) (a .sell) l w)
+    by true u true v false w g = clash refl g
+    by true u false v c w g = clash refl g
+    by false u true v false w g = omega (arith, leb-false 64 (length l) u, quote-length 27 (a .party) (a .sell) l)
+    by false u false v c w g = omega (arith, leb-false 64 (length l) u)
+
+party-within : (a : Ask) → leb (a .kind) 7 ≡ true → badParty a ≡ false → (1 ≤ a .party) × (a .party ≤ 99)
+party-within a q h = by (makersOnly a) (rw q at h)
+  where
+    by : (b : Bool) → cond b (not (between 1 16 (a .party))) (not (between 1 99 (a .party))) ≡ false → (1 ≤ a .party) × (a .party ≤ 99)
+    by true g = let k = within 1 16 (a .party) g in (k .0, omega (arith, k .1))
+    by false g = within 1 99 (a .party) g
+
+-- ---- an accepted message ----
+
+module _ (s : Series) (a : Ask) (ok : Accepted s a) where
+  pub facts : SeriesFacts s
+  facts = series-facts s (ok .sound)
+
+  pub tests : Passed s a
+  tests = passed s a (ok .passes)
+
+  -- quotes and orders enter an open series only
+  pub enters-open : enters a ≡ true → s .terms .phase ≡ 1
+  enters-open q = eqb-true (s .terms .phase) 1 (not-false (eqb (s .terms .phase) 1) (rw q at (tests .opened)))
+
+  pub enters-fresh : enters a ≡ true → s .terms .given < 1000000
+  enters-fresh q = leb-false 1000000 (s .terms .given) (rw q at (tests .number))
+
+  -- THE TESTS THAT WERE PASSED ARE WHAT ARRIVAL ASKS
+  pub accepted-arriving : enters a ≡ true → Arriving (s .terms) (comer (s .terms .given) a) (entriesOf (s .book))
+  accepted-arriving q =
+      let party = party-within a (le-leb (a .kind) 7 (omega (arith, leb-true (a .kind) 6 q))) (tests .party) in
+      let quantity = within 1 99999 (a .quantity) (rw q at (tests .quantity)) in
+      record {
+        market = facts .market;
+        entries = facts .book .entries;
+        steps = facts .terms .steps;
+        number = refl;
+        fresh = enters-fresh q;
+        kind-low = ok .kind;
+        kind-high = leb-true (a .kind) 6 q;
+        party-low = party .0;
+        party-high = party .1;
+        maker = λ r. within 1 16 (a .party) (rw r at (tests .party)) .1;
+        limit = not-false (legal (s .terms .m) (a .price)) (rw q at (tests .price));
+        some = quantity .0;
+        most = quantity .1;
+        space = space-left (s .terms .given) (entriesOf (s .book)) a (facts .book .size) q (tests .space);
+      }
+
+  -- the series' numbers stay legal
+  pub terms-legal : TermsFacts (termsAfter (s .terms) a)
+  unfolding termsAfter
+  terms-legal = record {
+    step = facts .terms .step;
+    steps = facts .terms .steps;
+    strike = facts .terms .strike;
+    phase = cond-either (λ (n : ℕ). n ≤ 2) (eqb (a .kind) 11) (a .quantity) (s .terms .phase)
+        (λ q. leb-true (a .quantity) 2 (not-false (leb (a .quantity) 2) (rw (eqb-true (a .kind) 11 q) at (tests .quantity)))) (λ q. facts .terms .phase);
+    bid = cond-either (λ (n : ℕ). given (s .terms .m) n ≡ true) (eqb (a .kind) 9) (a .price) (s .terms .bid)
+        (λ q. and-left (given (s .terms .m) (a .price)) (given (s .terms .m) (a .second)) (aways q)) (λ q. facts .terms .bid);
+    offer = cond-either (λ (n : ℕ). given (s .terms .m) n ≡ true) (eqb (a .kind) 9) (a .second) (s .terms .offer)
+        (λ q. and-right (given (s .terms .m) (a .price)) (given (s .terms .m) (a .second)) (aways q)) (λ q. facts .terms .offer);
+    underlying = cond-either (λ (n : ℕ). n ≤ 100000) (eqb (a .kind) 10) (a .price) (s .terms .underlying)
+        (λ q. leb-true (a .price) 100000 (not-false (leb (a .price) 100000) (rw (eqb-true (a .kind) 10 q) at (tests .price)))) (λ q. facts .terms .underlying);
+    numbers = cond-either (λ (n : ℕ). n ≤ 1000000) (enters a) (s .terms .given + 1) (s .terms .given)
+        (λ q. omega (arith, enters-fresh q)) (λ q. facts .terms .numbers);
+  }
+    where
+      aways : eqb (a .kind) 9 ≡ true → (given (s .terms .m) (a .price) && given (s .terms .m) (a .second)) ≡ true
+      aways q = not-false (given (s .terms .m) (a .price) && given (s .terms .m) (a .second)) (rw (eqb-true (a .kind) 9 q) at (tests .price))

@@ -1,0 +1,130 @@
+-- THE REFUSALS, IN ORDER OF TEST: the number answered is that of the first test that holds, 0 where none does; and a refusal changes nothing.
+-- Assumes nothing.
+use Prim.Native.Nat.{ℕ, _≤_}
+use mathlib.Core.Path.{_≡_, refl, sym, _∙_}
+use mathlib.Core.Bool.{Bool, true, false, cond, not}
+use mathlib.Core.List.{List, [], _∷_}
+use mathlib.Core.Option.{Option, none, some}
+use native.Mathlib.Omega.{arith}
+use lib.Dec.{eqb, ltb}
+use lib.ListN.{length, drop}
+use borrow.Author.Tests.{eqb-true}
+use Rattle.lists.specs.Tests.{All}
+use Rattle.packing.specs.declared.message.Event.{Event}
+use Rattle.packing.specs.Codec.{unpackOf}
+use Rattle.packing.specs.Message.{messages}
+use Rattle.book.specs.Shape.{entriesOf}
+use Rattle.series.specs.declared.Series.{Series}
+use Rattle.series.specs.Series.{soundSeries}
+use Rattle.handler.specs.declared.Ask.{Ask}
+use Rattle.handler.specs.Asked.{askOf}
+use Rattle.handler.specs.Refuse.{badParty, badPrice, badQuantity, notOpen, isBlocked, isFull, isSpent, isMissing, firstHolding, refusalOf}
+use Rattle.handler.specs.Handle.{Handled, refused, accepted, heard, handled}
+
+-- the message unpacks to no event; a test is put to what an event asks
+abbrev pub isNothing : Option Event → Bool
+isNothing none = true
+isNothing (some e) = false
+
+abbrev pub asked : Option Event → (Ask → Bool) → Bool
+asked none test = false
+asked (some e) test = test (askOf e)
+
+-- DOCUMENT 01'S TABLE, in its order: 10, 11, 1, 2, 3, 4, 5, 6, 7, 9, 8
+abbrev pub table : Series → Option Event → List ℕ → List (ℕ × Bool)
+table s event room =
+    -- "report room under 31,920 bytes (2,280 reports of 14)"
+    (10, ltb (length room) 31920)
+    -- "state handed in is unsound"
+    ∷ (11, not (soundSeries s))
+    -- "length not 11, unknown kind, a nonzero unused bit or field"
+    ∷ (1, isNothing event)
+    -- "party outside 1-99; kinds 1-4, 8, 12: outside 1-16"
+    ∷ (2, asked event badParty)
+    -- "a price out of range or, but for the underlying, off the M grid (away: if not 0)"
+    ∷ (3, asked event (badPrice (s .terms .m)))
+    -- "quantity out of range, or phase above 2"
+    ∷ (4, asked event badQuantity)
+    -- "kinds 1-6, series not open"
+    ∷ (5, asked event (notOpen (s .terms .phase)))
+    -- "kinds 1-4, maker blocked"
+    ∷ (6, asked event (isBlocked (s .blocked)))
+    -- "kinds 1-6, 64 entries rest, not counting the quote this one replaces"
+    ∷ (7, asked event (isFull (entriesOf (s .book))))
+    -- "kinds 1-6, entry 1,000,000 has been given"
+    ∷ (9, asked event (isSpent (s .terms .given)))
+    -- "kinds 7, 8: no such entry of that party, or no such quote"
+    ∷ (8, asked event (isMissing (entriesOf (s .book))))
+    ∷ []
+
+-- ---- the first that holds ----
+
+-- it is 0 exactly when none holds
+pub first-none : (ts : List (ℕ × Bool)) → All (λ (t : ℕ × Bool). 1 ≤ t .0) ts → firstHolding ts ≡ 0 → All (λ (t : ℕ × Bool). t .1 ≡ false) ts
+first-none [] n h = tt
+first-none (t ∷ ts) n h = by (t .1) refl h (λ k. first-none ts (n .1) k)
+  where
+    by : (b : Bool) → t .1 ≡ b → cond b (t .0) (firstHolding ts) ≡ 0 → (firstHolding ts ≡ 0 → All (λ (u : ℕ × Bool). u .1 ≡ false) ts)
+        → (t .1 ≡ false) × All (λ (u : ℕ × Bool). u .1 ≡ false) ts
+    by true q k more = absurd (omega (arith, n .0))
+    by false q k more = (q, more k)
+
+pub none-first : (ts : List (ℕ × Bool)) → All (λ (t : ℕ × Bool). t .1 ≡ false) ts → firstHolding ts ≡ 0
+none-first [] a = refl
+none-first (t ∷ ts) a = rw (a .0) (none-first ts (a .1))
+
+module _ (s : Series) (message room : List ℕ) where
+  -- THE REFUSAL IS THE FIRST OF THE TABLE WHOSE TEST HOLDS
+  pub refusals-in-order : handled s message room .answer .refusal ≡ firstHolding (table s (unpackOf messages message) room)
+  unfolding handled refusalOf
+  refusals-in-order = by (ltb (length room) 31920) (soundSeries s) (unpackOf messages message)
+    where
+      judge : (e : Event) (b : Bool) → eqb (refusalOf s (askOf e)) 0 ≡ b
+          → (cond b (accepted s (askOf e) room) (refused (refusalOf s (askOf e)) s room)) .answer .refusal ≡ refusalOf s (askOf e)
+      judge e true q = sym (eqb-true (refusalOf s (askOf e)) 0 q)
+      judge e false q = refl
+
+      by : (b c : Bool) (u : Option Event) → (cond b (refused 10 s room) (cond c (heard s room u) (refused 11 s room))) .answer .refusal
+          ≡ cond b 10 (cond (not c) 11 (firstHolding (drop 2 (table s u room))))
+      by true c u = refl
+      by false false u = refl
+      by false true none = refl
+      by false true (some e) = judge e (eqb (refusalOf s (askOf e)) 0) refl
+
+  -- 0 EXACTLY WHEN NONE HOLDS
+  pub accepted-none : handled s message room .answer .refusal ≡ 0 → All (λ (t : ℕ × Bool). t .1 ≡ false) (table s (unpackOf messages message) room)
+  accepted-none h = first-none (table s (unpackOf messages message) room) numbers (sym refusals-in-order ∙ h)
+    where
+      numbers : All (λ (t : ℕ × Bool). 1 ≤ t .0) (table s (unpackOf messages message) room)
+      numbers =
+          (omega arith, (omega arith, (omega arith, (omega arith, (omega arith, (omega arith, (omega arith, (omega arith, (omega arith, (omega arith, (omega arith, tt)))))))))))
+
+  pub none-accepted : All (λ (t : ℕ × Bool). t .1 ≡ false) (table s (unpackOf messages message) room) → handled s message room .answer .refusal ≡ 0
+  none-accepted a = refusals-in-order ∙ none-first (table s (unpackOf messages message) room) a
+
+-- ---- "Each returns its number and count 0 and changes nothing." ----
+
+pub record Unchanged (s : Series) (room : List ℕ) (h : Handled) : Type 0 where
+  pub series : h .answer .series ≡ s
+  pub count : h .answer .count ≡ 0
+  pub bytes : h .room ≡ room
+
+-- A REFUSAL CHANGES NOTHING
+pub refusals-keep : (s : Series) (message room : List ℕ) → (handled s message room .answer .refusal ≡ 0 → ⊥) → Unchanged s room (handled s message room)
+unfolding handled
+refusals-keep s message room h = by (ltb (length room) 31920) (soundSeries s) (unpackOf messages message) h
+  where
+    same : (why : ℕ) → Unchanged s room (refused why s room)
+    same why = record { series = refl; count = refl; bytes = refl }
+
+    judge : (e : Event) (b : Bool) → ((cond b (accepted s (askOf e) room) (refused (refusalOf s (askOf e)) s room)) .answer .refusal ≡ 0 → ⊥)
+        → Unchanged s room (cond b (accepted s (askOf e) room) (refused (refusalOf s (askOf e)) s room))
+    judge e true k = absurd (k refl)
+    judge e false k = same (refusalOf s (askOf e))
+
+    by : (b c : Bool) (u : Option Event) → ((cond b (refused 10 s room) (cond c (heard s room u) (refused 11 s room))) .answer .refusal ≡ 0 → ⊥)
+        → Unchanged s room (cond b (refused 10 s room) (cond c (heard s room u) (refused 11 s room)))
+    by true c u k = same 10
+    by false false u k = same 11
+    by false true none k = same 1
+    by false true (some e) k = judge e (eqb (refusalOf s (askOf e)) 0) k

@@ -1,0 +1,96 @@
+-- The stages of an accepted message, as the code goes through them: which stage the message's own part is, what settling behind it asks, and that both together are
+-- the handler's answer.
+-- Assumes nothing.
+use Prim.Native.Nat.{ℕ, _≤_}
+use mathlib.Core.Path.{_≡_, sym, subst}
+use mathlib.Core.Bool.{Bool, true, false}
+use mathlib.Core.List.{List}
+use native.Mathlib.Omega.{arith}
+use lib.Dec.{eqb}
+use lib.ListN.{length}
+use Rattle.lists.specs.Run.{still}
+use Rattle.packing.specs.declared.report.Report.the-variants.{Noted}
+use Rattle.book.specs.declared.Entry.{Entry}
+use Rattle.book.specs.declared.Book.{Book}
+use Rattle.book.specs.Shape.{entriesOf, WellFormed}
+use Rattle.settling.specs.Stage.{Roomy, Staged, SoundFor, andThen}
+use Rattle.settling.specs.Settle.{settled}
+use Rattle.arrival.specs.declared.Terms.{Terms}
+use Rattle.arrival.specs.Terms.{marketOf}
+use Rattle.arrival.specs.Cancel.{cancelEntry, cancelQuote, sweep}
+use Rattle.arrival.specs.Arrive.{told, arrived}
+use Rattle.arrival.proofs.StageLaws.{staged-list, staged-then, staged-room}
+use Rattle.series.specs.declared.Series.{Series}
+use Rattle.series.specs.Series.{soundSeries}
+use Rattle.series.proofs.SeriesFacts.{series-facts, book-well}
+use Rattle.handler.specs.declared.Ask.{Ask}
+use Rattle.handler.specs.Asked.{enters}
+use Rattle.handler.specs.Accept.{comer, own, termsAfter, blockedAfter, settledIf, done}
+use Rattle.handler.specs.Handle.{Handled, accepted}
+use Rattle.handler.proofs.Passed.{Accepted}
+use Rattle.handler.proofs.Accepted.{own-sound, accepted-room}
+
+-- a sound series has a well-formed book, in its array of 64
+pub sound-well : (s : Series) → soundSeries s ≡ true → length (s .book .entries) ≡ 64 → WellFormed (s .book)
+sound-well s h n = book-well (series-facts s h .book) n
+
+-- ---- which stage the message's own part is ----
+
+module _ (t : Terms) (a : Ask) (l : List Entry) where
+  pub own-enters : enters a ≡ true → own t a l ≡ arrived t (comer (t .given) a) l
+  unfolding own
+  own-enters q = rw q
+
+  pub own-entry : a .kind ≡ 7 → own t a l ≡ cancelEntry (a .party) (a .entry) l
+  unfolding own
+  own-entry q = rw q
+
+  pub own-quote : a .kind ≡ 8 → own t a l ≡ cancelQuote (a .party) (a .sell) l
+  unfolding own
+  own-quote q = rw q
+
+  pub own-phase : a .kind ≡ 11 → own t a l ≡ andThen (told Noted l) (sweep (a .quantity))
+  unfolding own
+  own-phase q = rw q
+
+  pub own-noted : enters a ≡ false → eqb (a .kind) 7 ≡ false → eqb (a .kind) 8 ≡ false → eqb (a .kind) 11 ≡ false → own t a l ≡ told Noted l
+  unfolding own
+  own-noted q q₇ q₈ q₁₁ = rw (q, q₇, q₈, q₁₁)
+
+-- "After every accepted message in an open series."
+module _ (t : Terms) (l : List Entry) where
+  pub settled-open : eqb (t .phase) 1 ≡ true → settledIf t l ≡ settled (marketOf t) l
+  settled-open q = rw q
+
+  pub settled-shut : eqb (t .phase) 1 ≡ false → settledIf t l ≡ still l
+  settled-shut q = rw q
+
+-- ---- behind the message's own part ----
+
+module _ (s : Series) (a : Ask) (ok : Accepted s a) {room : List ℕ} (space : 31920 ≤ length room) {b : Book} {room′ : List ℕ} {n′ : ℕ}
+    (first : Staged (own (s .terms) a (entriesOf (s .book))) room 0 b room′ n′) where
+  -- the book that it left is sound for settling
+  pub then-sound : SoundFor (marketOf (termsAfter (s .terms) a)) (entriesOf b)
+  then-sound = subst (SoundFor (marketOf (termsAfter (s .terms) a))) (sym (staged-list first)) (own-sound s a ok)
+
+  -- and the room is enough
+  pub then-room : Roomy room′ n′ (settledIf (termsAfter (s .terms) a) (entriesOf b) .records)
+  unfolding done
+  then-room = staged-room first (settledIf (termsAfter (s .terms) a)) (accepted-room s a ok room space)
+
+  -- with settling behind it, that is the whole
+  pub then-done : {after : Book} {room″ : List ℕ} {n″ : ℕ} → Staged (settledIf (termsAfter (s .terms) a) (entriesOf b)) room′ n′ after room″ n″
+      → Staged (done (s .terms) a (entriesOf (s .book))) room 0 after room″ n″
+  unfolding done
+  then-done t = staged-then first (settledIf (termsAfter (s .terms) a)) t
+
+-- WHAT THE STAGES LEFT IS THE ANSWER
+pub accepted-answer : (s : Series) (a : Ask) {room : List ℕ} {after : Book} {room′ : List ℕ} {n′ : ℕ} {terms′ : Terms} {blocked′ : List Bool}
+    → Staged (done (s .terms) a (entriesOf (s .book))) room 0 after room′ n′ → terms′ ≡ termsAfter (s .terms) a
+    → blocked′ ≡ blockedAfter (s .terms) a (entriesOf (s .book)) (s .blocked)
+    → _≡_ {A = Handled}
+    (record { answer = record { refusal = 0; count = n′; series = record { terms = terms′; blocked = blocked′; book = after } }; room = room′ })
+    (accepted s a room)
+accepted-answer s a {n′ = n′} x e f =
+    let n : n′ ≡ length (done (s .terms) a (entriesOf (s .book)) .records) = omega (arith, x .count) in
+    λ i. record { answer = record { refusal = 0; count = n i; series = record { terms = e i; blocked = f i; book = x .book i } }; room = x .bytes i }

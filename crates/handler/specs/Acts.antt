@@ -1,0 +1,47 @@
+-- What the functions of the handler ask of their callers, once the tests are passed.
+-- Assumes nothing.
+use Prim.Native.Nat.{ℕ, _-_, _≤_}
+use mathlib.Core.Path.{_≡_}
+use mathlib.Core.Bool.{Bool, true, false, cond}
+use mathlib.Core.List.{List}
+use lib.Dec.{eqb}
+use lib.ListN.{length, set}
+use Rattle.book.specs.declared.Book.{Book}
+use Rattle.book.specs.Shape.{entriesOf, WellFormed}
+use Rattle.settling.specs.Stage.{Roomy, SoundFor}
+use Rattle.arrival.specs.declared.Terms.{Terms}
+use Rattle.arrival.specs.Terms.{marketOf}
+use Rattle.series.specs.declared.Series.{Series}
+use Rattle.series.specs.Series.{soundSeries}
+use Rattle.handler.specs.declared.Ask.{Ask}
+use Rattle.handler.specs.Asked.{quotes}
+use Rattle.handler.specs.Refuse.{badParty, refusalOf}
+use Rattle.handler.specs.Accept.{settledIf}
+
+-- a sound series, with its arrays of 64 and 16 places
+pub record Whole (s : Series) : Type 0 where
+  pub sound : soundSeries s ≡ true
+  pub well : WellFormed (s .book)
+  pub blocks : length (s .blocked) ≡ 16
+
+-- and an event that no test refuses
+pub record Acts (s : Series) (a : Ask) : Type 0 where
+  pub whole : Whole s
+  pub kind : 1 ≤ a .kind
+  pub passes : refusalOf s a ≡ 0
+
+-- settling, in an open series
+pub record SettlesIf (t : Terms) (b : Book) (room : List ℕ) (n : ℕ) : Type 0 where
+  pub well : WellFormed b
+  pub sound : SoundFor (marketOf t) (entriesOf b)
+  pub roomy : Roomy room n (settledIf t (entriesOf b) .records)
+
+-- the block list afterwards, where it is known whether the maker is blocked by it
+abbrev pub blockedBy : Bool → Ask → List Bool → List Bool
+blockedBy blocking a blocked =
+    cond (eqb (a .kind) 12) (set blocked (a .party - 1) false) (cond blocking (set blocked (a .party - 1) true) blocked)
+
+pub record Marks (blocking : Bool) (a : Ask) (s : Series) : Type 0 where
+  pub maker : blocking ≡ true → quotes a ≡ true
+  pub party : badParty a ≡ false
+  pub blocks : length (s .blocked) ≡ 16

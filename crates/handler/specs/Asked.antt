@@ -1,0 +1,35 @@
+-- What an event asks, in one shape.
+-- Assumes nothing.
+use Prim.Native.Nat.{ℕ}
+use mathlib.Core.Bool.{Bool, true, false, _&&_, _||_}
+use lib.Dec.{eqb, leb}
+use Rattle.packing.specs.declared.message.Terms.{Terms}
+use Rattle.packing.specs.declared.message.Event.{Event}
+use Rattle.packing.specs.declared.message.Event.the-variants.{Plain, Mmlo, Mmalo, Mmrp, Displayed, Dark, CancelEntry, CancelQuote, Away, Underlying, Phase, Enable}
+use Rattle.handler.specs.declared.Ask.{Ask}
+
+-- kinds 1 to 6
+abbrev pub entering : ℕ → Terms → Ask
+entering kind t = record { kind = kind; party = t .party; sell = t .sell; price = t .price; quantity = t .quantity; second = 0; entry = 0 }
+
+-- document 01's number and fields for each case
+abbrev pub askOf : Event → Ask
+askOf (Plain t) = entering 1 t
+askOf (Mmlo t) = entering 2 t
+askOf (Mmalo t) = entering 3 t
+askOf (Mmrp t) = entering 4 t
+askOf (Displayed t) = entering 5 t
+askOf (Dark t) = entering 6 t
+askOf (CancelEntry party entry) = record { kind = 7; party = party; sell = false; price = 0; quantity = 0; second = 0; entry = entry }
+askOf (CancelQuote party sell) = record { kind = 8; party = party; sell = sell; price = 0; quantity = 0; second = 0; entry = 0 }
+askOf (Away bid offer) = record { kind = 9; party = 0; sell = false; price = bid; quantity = 0; second = offer; entry = 0 }
+askOf (Underlying price) = record { kind = 10; party = 0; sell = false; price = price; quantity = 0; second = 0; entry = 0 }
+askOf (Phase phase) = record { kind = 11; party = 0; sell = false; price = 0; quantity = phase; second = 0; entry = 0 }
+askOf (Enable party) = record { kind = 12; party = party; sell = false; price = 0; quantity = 0; second = 0; entry = 0 }
+
+-- kinds 1 to 6 enter; of these 1 to 4 are quotes
+abbrev pub enters : Ask → Bool
+enters a = leb (a .kind) 6
+
+abbrev pub quotes : Ask → Bool
+quotes a = leb (a .kind) 4

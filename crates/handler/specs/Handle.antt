@@ -1,0 +1,57 @@
+-- THE HANDLER: the answer, and every byte of the lent room, for every series, message and room.
+-- Assumes nothing.
+use Prim.Native.Nat.{ℕ}
+use mathlib.Core.Bool.{Bool, true, false, cond}
+use mathlib.Core.List.{List}
+use mathlib.Core.Option.{Option, none, some}
+use lib.Dec.{eqb, ltb}
+use lib.ListN.{length}
+use Rattle.packing.specs.declared.message.Event.{Event}
+use Rattle.packing.specs.Codec.{unpackOf}
+use Rattle.packing.specs.Message.{messages, messageAt}
+use Rattle.packing.specs.Room.{written}
+use Rattle.book.specs.Shape.{entriesOf}
+use Rattle.series.specs.declared.Series.{Series}
+use Rattle.series.specs.Series.{soundSeries}
+use Rattle.handler.specs.declared.Ask.{Ask}
+use Rattle.handler.specs.declared.Answer.{Answer}
+use Rattle.handler.specs.Asked.{askOf}
+use Rattle.handler.specs.Refuse.{refusalOf}
+use Rattle.handler.specs.Accept.{done, seriesAfter}
+
+-- an answer, with the room as it then is
+pub record Handled : Type 0 where
+  pub answer : Answer
+  pub room : List ℕ
+
+abbrev pub answered : Answer → List ℕ → Handled
+answered r room = record { answer = r; room = room }
+
+-- "Each returns its number and count 0 and changes nothing."
+abbrev pub refused : ℕ → Series → List ℕ → Handled
+refused why s room = record { answer = record { refusal = why; count = 0; series = s }; room = room }
+
+-- an accepted message writes its counted reports at the front of the room and no byte beyond
+abbrev pub accepted : Series → Ask → List ℕ → Handled
+accepted s a room = record {
+  answer = record { refusal = 0; count = length (done (s .terms) a (entriesOf (s .book)) .records); series = seriesAfter s a };
+  room = written room 0 (done (s .terms) a (entriesOf (s .book)) .records);
+}
+
+abbrev pub judged : Series → Ask → List ℕ → ℕ → Handled
+judged s a room why = cond (eqb why 0) (accepted s a room) (refused why s room)
+
+-- "A message that unpacks to no event stops there with refusal 1."
+abbrev pub heard : Series → List ℕ → Option Event → Handled
+heard s room none = refused 1 s room
+heard s room (some e) = judged s (askOf e) room (refusalOf s (askOf e))
+
+-- 10: "report room under 31,920 bytes (2,280 reports of 14)"; 11: "state handed in is unsound"; then the message
+unfoldable pub handled : Series → List ℕ → List ℕ → Handled
+handled s message room =
+    cond (ltb (length room) 31920) (refused 10 s room)
+    (cond (soundSeries s) (heard s room (unpackOf messages message)) (refused 11 s room))
+
+-- a message where it stands in a run
+abbrev pub handledAt : Series → List ℕ → ℕ → List ℕ → Handled
+handledAt s run at room = handled s (messageAt run at) room

@@ -1,0 +1,5 @@
+pub mod Asked
+pub mod Refuse
+pub mod Accept
+pub mod Handle
+pub mod Acts

@@ -1,0 +1,89 @@
+-- The refusals that an event can meet, each test by document 01's words, and their order. "Tests on party and the like apply only to kinds that carry the field."
+-- Assumes nothing.
+use Prim.Native.Nat.{ℕ, _-_}
+use mathlib.Core.Bool.{Bool, true, false, cond, not, _&&_, _||_}
+use mathlib.Core.List.{List, [], _∷_}
+use lib.Dec.{eqb, leb}
+use lib.ListN.{length, getD}
+use Rattle.prices.specs.Step.{legal, given}
+use Rattle.lists.specs.Choose.{Found, nowhere, found}
+use Rattle.lists.specs.Tests.{any}
+use Rattle.book.specs.declared.Entry.{Entry}
+use Rattle.book.specs.declared.Rank.{Rank}
+use Rattle.book.specs.declared.Rank.the-variants.{At, Nowhere}
+use Rattle.book.specs.Entries.{quoteOf}
+use Rattle.book.specs.Shape.{entriesOf}
+use Rattle.book.specs.Look.{entryOf, quoteIn}
+use Rattle.sound.specs.Sound.{between}
+use Rattle.series.specs.declared.Series.{Series}
+use Rattle.handler.specs.declared.Ask.{Ask}
+use Rattle.handler.specs.Asked.{enters, quotes}
+
+-- 2: "party outside 1-99; kinds 1-4, 8, 12: outside 1-16"; kinds 9 to 11 carry none
+abbrev pub makersOnly : Ask → Bool
+makersOnly a = quotes a || (eqb (a .kind) 8 || eqb (a .kind) 12)
+
+abbrev pub badParty : Ask → Bool
+badParty a = cond (makersOnly a) (not (between 1 16 (a .party))) (cond (leb (a .kind) 7) (not (between 1 99 (a .party))) false)
+
+-- 3: "a price out of range or, but for the underlying, off the M grid (away: if not 0)"
+abbrev pub badPrice : ℕ → Ask → Bool
+badPrice m a =
+    cond (enters a) (not (legal m (a .price)))
+    (cond (eqb (a .kind) 9) (not (given m (a .price) && given m (a .second)))
+    (cond (eqb (a .kind) 10) (not (leb (a .price) 100000)) false))
+
+-- 4: "quantity out of range, or phase above 2"
+abbrev pub badQuantity : Ask → Bool
+badQuantity a = cond (enters a) (not (between 1 99999 (a .quantity))) (cond (eqb (a .kind) 11) (not (leb (a .quantity) 2)) false)
+
+-- 5: "kinds 1-6, series not open"
+abbrev pub notOpen : ℕ → Ask → Bool
+notOpen phase a = enters a && not (eqb phase 1)
+
+-- 6: "kinds 1-4, maker blocked"
+abbrev pub isBlocked : List Bool → Ask → Bool
+isBlocked blocked a = quotes a && getD blocked (a .party - 1) false
+
+-- 7: "kinds 1-6, 64 entries rest, not counting the quote this one replaces"
+abbrev pub isFull : List Entry → Ask → Bool
+isFull l a = enters a && (leb 64 (length l) && not (quotes a && any (quoteOf (a .party) (a .sell)) l))
+
+-- 9: "kinds 1-6, entry 1,000,000 has been given"
+abbrev pub isSpent : ℕ → Ask → Bool
+isSpent given a = enters a && leb 1000000 given
+
+-- 8: "kinds 7, 8: no such entry of that party, or no such quote"
+abbrev pub isNowhere : Found Entry → Bool
+isNowhere nowhere = true
+isNowhere (found i e) = false
+
+-- the same of the rank that was answered
+abbrev pub goneAt : Rank → Bool
+goneAt Nowhere = true
+goneAt (At i) = false
+
+abbrev pub isMissing : List Entry → Ask → Bool
+isMissing l a =
+    cond (eqb (a .kind) 7) (isNowhere (entryOf (a .party) (a .entry) l)) (cond (eqb (a .kind) 8) (isNowhere (quoteIn (a .party) (a .sell) l)) false)
+
+-- the number of the first test of a list that holds, 0 where none does
+abbrev pub firstHolding : List (ℕ × Bool) → ℕ
+firstHolding [] = 0
+firstHolding (t ∷ ts) = cond (t .1) (t .0) (firstHolding ts)
+
+-- THE LIST, in document 01's order
+abbrev pub refusals : Series → Ask → List (ℕ × Bool)
+refusals s a =
+    (2, badParty a)
+    ∷ (3, badPrice (s .terms .m) a)
+    ∷ (4, badQuantity a)
+    ∷ (5, notOpen (s .terms .phase) a)
+    ∷ (6, isBlocked (s .blocked) a)
+    ∷ (7, isFull (entriesOf (s .book)) a)
+    ∷ (9, isSpent (s .terms .given) a)
+    ∷ (8, isMissing (entriesOf (s .book)) a)
+    ∷ []
+
+unfoldable pub refusalOf : Series → Ask → ℕ
+refusalOf s a = firstHolding (refusals s a)

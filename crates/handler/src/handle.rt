@@ -1,0 +1,237 @@
+// The handler of one message.
+use crate::Answer;
+use crate::Ask;
+use crate::asking::ask_of;
+use crate::asking::comer_of;
+use crate::refuse::refusal_of;
+use arrival::Terms;
+use arrival::arrive::arrive;
+use arrival::arrive::rejection_of;
+use arrival::cancel::cut_at;
+use arrival::cancel::cut_quote;
+use arrival::post::market_of;
+use arrival::sweep::sweep_all;
+use book::Book;
+use book::Rank;
+use book::find::find_entry;
+use packing::message::Event;
+use packing::message::Unpacked;
+use packing::message::unpack;
+use packing::message::unpack_at;
+use packing::report::Report;
+use series::Series;
+use series::soundness::check_series;
+use settle::room::put;
+use settle::settle;
+ghost use Prim.Native.Nat.{_≤_};
+ghost use mathlib.Core.Path.{_≡_};
+ghost use mathlib.Core.Bool.{_&&_};
+ghost use lib.ListN.{length};
+ghost use Rattle.packing.specs.declared.report.Report.the-variants.{Noted};
+ghost use Rattle.book.specs.Shape.{entriesOf};
+ghost use Rattle.settling.specs.Stage.{Roomy, Staged, andThen};
+ghost use Rattle.arrival.specs.Cancel.{cancelEntry, sweep, Asks};
+ghost use Rattle.arrival.specs.Arrive.{told, blocks};
+ghost use Rattle.handler.specs.Asked.{askOf, quotes};
+ghost use Rattle.handler.specs.Refuse.{refusalOf};
+ghost use Rattle.handler.specs.Accept.{comer, own, termsAfter, settledIf};
+ghost use Rattle.handler.specs.Acts.{Whole, Acts, SettlesIf, blockedBy, Marks};
+ghost use Rattle.handler.specs.Handle.{answered, accepted, judged, handled, handledAt};
+
+fn refused(series: Series, why: u32) -> Answer
+    ensures { λ r. ⌜ r ≡ record { refusal = why; count = 0; series = series } ⌝ }
+{
+    Answer {
+        refusal: why,
+        count: 0,
+        series,
+    }
+}
+
+// The series' numbers afterwards.
+fn terms_after(t: Terms, a: Ask) -> Terms
+    requires { ⌜ t .given ≤ 1000000 ⌝ }
+    ensures { λ r. ⌜ r ≡ termsAfter t a ⌝ }
+{
+    let mut out = t;
+    if a.kind <= 6 {
+        out.given = t.given + 1;
+        return out;
+    }
+    if a.kind == 9 {
+        out.bid = a.price;
+        out.offer = a.second;
+        return out;
+    }
+    if a.kind == 10 {
+        out.underlying = a.price;
+        return out;
+    }
+    if a.kind == 11 {
+        out.phase = a.quantity;
+        return out;
+    }
+    out
+}
+
+// A party's entry goes, as its owner asked.
+fn cancel_entry(b: Book, party: u8, entry: u32, room: &mut [u8], n: &mut usize) -> Book
+    requires { ⌜ Asks (cancelEntry party entry (entriesOf b)) b (now room) (now n) ⌝ }
+    ensures { λ r. ⌜ Staged (cancelEntry party entry (entriesOf b)) (now (room .entry)) (now (n .entry)) r (now (room .exit)) (now (n .exit)) ⌝ }
+{
+    let rank = find_entry(b, party, entry);
+    let Rank::At(i) = rank else {
+        return b;
+    };
+    cut_at(b, i, 28, room, n)
+}
+
+// A phase is noted, and then cancels.
+fn note_phase(b: Book, phase: u32, room: &mut [u8], n: &mut usize) -> Book
+    requires { ⌜ Asks (andThen (told Noted (entriesOf b)) (sweep phase)) b (now room) (now n) ⌝ }
+    ensures { λ r. ⌜ Staged (andThen (told Noted (entriesOf b)) (sweep phase)) (now (room .entry)) (now (n .entry)) r (now (room .exit)) (now (n .exit)) ⌝ }
+{
+    put(room, n, Report::Noted);
+    sweep_all(b, phase, room, n)
+}
+
+// The message's own part.
+fn act(s: Series, a: Ask, room: &mut [u8], n: &mut usize) -> Book
+    requires { ⌜ Acts s a ⌝ }
+    requires { ⌜ Roomy (now room) (now n) (own (s .terms) a (entriesOf (s .book)) .records) ⌝ }
+    ensures { λ r. ⌜ Staged (own (s .terms) a (entriesOf (s .book))) (now (room .entry)) (now (n .entry)) r (now (room .exit)) (now (n .exit)) ⌝ }
+{
+    let b = s.book;
+    let t = s.terms;
+    if a.kind <= 6 {
+        let e = comer_of(t.given, a);
+        return arrive(b, t, e, room, n);
+    }
+    if a.kind == 7 {
+        let party = a.party as u8;
+        return cancel_entry(b, party, a.entry, room, n);
+    }
+    if a.kind == 8 {
+        let party = a.party as u8;
+        return cut_quote(b, party, a.sell, 28, room, n);
+    }
+    if a.kind == 11 {
+        return note_phase(b, a.quantity, room, n);
+    }
+    put(room, n, Report::Noted);
+    b
+}
+
+// Settling, in an open series.
+fn settle_if(t: Terms, b: Book, room: &mut [u8], n: &mut usize) -> Book
+    requires { ⌜ SettlesIf t b (now room) (now n) ⌝ }
+    ensures { λ r. ⌜ Staged (settledIf t (entriesOf b)) (now (room .entry)) (now (n .entry)) r (now (room .exit)) (now (n .exit)) ⌝ }
+{
+    if t.phase == 1 {
+        return settle(b, market_of(t), room, n);
+    }
+    b
+}
+
+// Whether it is a quote that is rejected for a reason that blocks its maker.
+fn is_blocking(s: Series, a: Ask) -> bool
+    requires { ⌜ Acts s a ⌝ }
+    ensures { λ r. ⌜ r ≡ (quotes a && blocks (s .terms) (comer (s .terms .given) a) (entriesOf (s .book))) ⌝ }
+{
+    if 4 < a.kind {
+        return false;
+    }
+    let b = s.book;
+    let t = s.terms;
+    let e = comer_of(t.given, a);
+    let why = rejection_of(b, t, e);
+    (why == 25) | (why == 26)
+}
+
+// The series with its new numbers and book, and the maker blocked or freed.
+fn put_together(s: Series, a: Ask, terms: Terms, blocking: bool, book: Book) -> Series
+    requires { ⌜ Marks blocking a s ⌝ }
+    ensures { λ r. ⌜ r ≡ record { terms = terms; blocked = blockedBy blocking a (s .blocked); book = book } ⌝ }
+{
+    let mut out = s;
+    out.terms = terms;
+    out.book = book;
+    if a.kind == 12 {
+        let i = (a.party - 1) as usize;
+        out.blocked[i] = false;
+        return out;
+    }
+    if blocking {
+        let i = (a.party - 1) as usize;
+        out.blocked[i] = true;
+        return out;
+    }
+    out
+}
+
+// An event that no test refuses.
+fn accept(s: Series, a: Ask, room: &mut [u8]) -> Answer
+    requires { ⌜ Acts s a ⌝ }
+    requires { ⌜ 31920 ≤ length (now room) ⌝ }
+    ensures { λ r. ⌜ answered r (now (room .exit)) ≡ accepted s a (now (room .entry)) ⌝ }
+{
+    let blocking = is_blocking(s, a);
+    let mut n = 0usize;
+    let b = act(s, a, room, &mut n);
+    let t = terms_after(s.terms, a);
+    let after = settle_if(t, b, room, &mut n);
+    let series = put_together(s, a, t, blocking, after);
+    Answer {
+        refusal: 0,
+        count: n,
+        series,
+    }
+}
+
+// What a message that was read is answered.
+fn answer_event(series: Series, event: Event, room: &mut [u8]) -> Answer
+    requires { ⌜ Whole series ⌝ }
+    requires { ⌜ 31920 ≤ length (now room) ⌝ }
+    ensures { λ r. ⌜ answered r (now (room .exit)) ≡ judged series (askOf event) (now (room .entry)) (refusalOf series (askOf event)) ⌝ }
+{
+    let a = ask_of(event);
+    let why = refusal_of(series, a);
+    if why != 0 {
+        return refused(series, why);
+    }
+    accept(series, a, room)
+}
+
+// Every series, message and room has its answer.
+pub fn handle(series: Series, message: &[u8], room: &mut [u8]) -> Answer
+    ensures { λ r. ⌜ answered r (now (room .exit)) ≡ handled series (now (message .entry)) (now (room .entry)) ⌝ }
+{
+    if room.len() < 31920 {
+        return refused(series, 10);
+    }
+    let check = check_series(series);
+    if !check.ok {
+        return refused(series, 11);
+    }
+    let Unpacked::Message(event) = unpack(message) else {
+        return refused(series, 1);
+    };
+    answer_event(series, event, room)
+}
+
+// The same of a message where it stands in a run.
+pub fn handle_at(series: Series, run: &[u8], at: usize, room: &mut [u8]) -> Answer
+    ensures { λ r. ⌜ answered r (now (room .exit)) ≡ handledAt series (now (run .entry)) at (now (room .entry)) ⌝ }
+{
+    if room.len() < 31920 {
+        return refused(series, 10);
+    }
+    let check = check_series(series);
+    if !check.ok {
+        return refused(series, 11);
+    }
+    let Unpacked::Message(event) = unpack_at(run, at) else {
+        return refused(series, 1);
+    };
+    answer_event(series, event, room)
+}

@@ -1,0 +1,179 @@
+// The refusals that an event can meet: a function for each test, and their order.
+use crate::Ask;
+use book::Book;
+use book::Rank;
+use book::find::find_entry;
+use book::find::find_quote;
+use prices::step::is_given;
+use prices::step::is_legal;
+use series::Series;
+ghost use mathlib.Core.Path.{_≡_};
+ghost use mathlib.Core.Bool.{true, false};
+ghost use lib.ListN.{length};
+ghost use Rattle.prices.specs.Step.{mpv};
+ghost use Rattle.book.specs.Shape.{entriesOf, WellFormed};
+ghost use Rattle.sound.specs.Sound.{between};
+ghost use Rattle.handler.specs.Refuse.{makersOnly, badParty, badPrice, badQuantity, notOpen, isBlocked, isFull, isSpent, isMissing, goneAt, refusalOf};
+
+fn is_between(low: u32, high: u32, x: u32) -> bool
+    ensures { λ r. ⌜ r ≡ between low high x ⌝ }
+{
+    (low <= x) & (x <= high)
+}
+
+fn is_makers_only(a: Ask) -> bool
+    ensures { λ r. ⌜ r ≡ makersOnly a ⌝ }
+{
+    (a.kind <= 4) | ((a.kind == 8) | (a.kind == 12))
+}
+
+// 2: a party out of range.
+fn is_bad_party(a: Ask) -> bool
+    ensures { λ r. ⌜ r ≡ badParty a ⌝ }
+{
+    if is_makers_only(a) {
+        return !is_between(1, 16, a.party);
+    }
+    if a.kind <= 7 {
+        return !is_between(1, 99, a.party);
+    }
+    false
+}
+
+// 3: a price out of range or off the grid.
+fn is_bad_price(m: u32, a: Ask) -> bool
+    requires { ⌜ mpv m ≡ true ⌝ }
+    ensures { λ r. ⌜ r ≡ badPrice m a ⌝ }
+{
+    if a.kind <= 6 {
+        return !is_legal(m, a.price);
+    }
+    if a.kind == 9 {
+        return !(is_given(m, a.price) & is_given(m, a.second));
+    }
+    if a.kind == 10 {
+        return !(a.price <= 100000);
+    }
+    false
+}
+
+// 4: a quantity out of range, or a phase above 2.
+fn is_bad_quantity(a: Ask) -> bool
+    ensures { λ r. ⌜ r ≡ badQuantity a ⌝ }
+{
+    if a.kind <= 6 {
+        return !is_between(1, 99999, a.quantity);
+    }
+    if a.kind == 11 {
+        return !(a.quantity <= 2);
+    }
+    false
+}
+
+// 5: the series is not open.
+fn is_not_open(phase: u32, a: Ask) -> bool
+    ensures { λ r. ⌜ r ≡ notOpen phase a ⌝ }
+{
+    (a.kind <= 6) & !(phase == 1)
+}
+
+// 6: the maker is blocked.
+fn is_blocked(s: Series, a: Ask) -> bool
+    requires { ⌜ badParty a ≡ false ⌝ }
+    requires { ⌜ length (s .blocked) ≡ 16 ⌝ }
+    ensures { λ r. ⌜ r ≡ isBlocked (s .blocked) a ⌝ }
+{
+    if a.kind <= 4 {
+        let i = (a.party - 1) as usize;
+        return s.blocked[i];
+    }
+    false
+}
+
+fn is_gone(rank: Rank) -> bool
+    ensures { λ r. ⌜ r ≡ goneAt rank ⌝ }
+{
+    match rank {
+        Rank::At(_) => false,
+        Rank::Nowhere => true,
+    }
+}
+
+// 7: 64 entries rest, not counting the quote that this one replaces.
+fn is_full(b: Book, a: Ask) -> bool
+    requires { ⌜ badParty a ≡ false ⌝ }
+    requires { ⌜ WellFormed b ⌝ }
+    ensures { λ r. ⌜ r ≡ isFull (entriesOf b) a ⌝ }
+{
+    if 6 < a.kind {
+        return false;
+    }
+    if b.count < 64 {
+        return false;
+    }
+    if 4 < a.kind {
+        return true;
+    }
+    let party = a.party as u8;
+    is_gone(find_quote(b, party, a.sell))
+}
+
+// 9: the last entry number has been given.
+fn is_spent(given: u32, a: Ask) -> bool
+    ensures { λ r. ⌜ r ≡ isSpent given a ⌝ }
+{
+    (a.kind <= 6) & (1000000 <= given)
+}
+
+// 8: no such entry of that party, or no such quote.
+fn is_missing(b: Book, a: Ask) -> bool
+    requires { ⌜ badParty a ≡ false ⌝ }
+    requires { ⌜ WellFormed b ⌝ }
+    ensures { λ r. ⌜ r ≡ isMissing (entriesOf b) a ⌝ }
+{
+    if a.kind == 7 {
+        let party = a.party as u8;
+        return is_gone(find_entry(b, party, a.entry));
+    }
+    if a.kind == 8 {
+        let party = a.party as u8;
+        return is_gone(find_quote(b, party, a.sell));
+    }
+    false
+}
+
+// The number of the first test that holds, 0 where none does.
+pub fn refusal_of(s: Series, a: Ask) -> u32
+    requires { ⌜ mpv (s .terms .m) ≡ true ⌝ }
+    requires { ⌜ WellFormed (s .book) ⌝ }
+    requires { ⌜ length (s .blocked) ≡ 16 ⌝ }
+    ensures { λ r. ⌜ r ≡ refusalOf s a ⌝ }
+{
+    let t = s.terms;
+    let b = s.book;
+    if is_bad_party(a) {
+        return 2;
+    }
+    if is_bad_price(t.m, a) {
+        return 3;
+    }
+    if is_bad_quantity(a) {
+        return 4;
+    }
+    if is_not_open(t.phase, a) {
+        return 5;
+    }
+    if is_blocked(s, a) {
+        return 6;
+    }
+    if is_full(b, a) {
+        return 7;
+    }
+    if is_spent(t.given, a) {
+        return 9;
+    }
+    if is_missing(b, a) {
+        return 8;
+    }
+    0
+}

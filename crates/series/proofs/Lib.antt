@@ -1,0 +1,3 @@
+pub mod SeriesFacts
+pub mod SetupSound
+pub mod CheckLaws

@@ -1,0 +1,78 @@
+-- "Setup .. give[s] only sound states": every setup that unpacks gives a sound series; and where none does, the zeros that stand for no series are unsound, so that
+-- the handler refuses them.
+-- Assumes nothing.
+use Prim.Native.Nat.{ℕ}
+use mathlib.Core.Path.{_≡_, refl, sym, ap, _∙_}
+use mathlib.Core.Bool.{Bool, true, false, _&&_, _||_}
+use mathlib.Core.List.{List, []}
+use mathlib.Core.Option.{Option, none, some}
+use native.Mathlib.Omega.{arith}
+use lib.Dec.{eqb, leb}
+use lib.ListN.{length, replicate}
+use borrow.Author.Tests.{leb-true}
+use Rattle.bits.specs.Fields.{equal}
+use Rattle.prices.specs.Step.{mpv, given}
+use Rattle.lists.specs.Tests.{all, pairs}
+use Rattle.lists.proofs.Bools.{and-left, and-right}
+use Rattle.packing.specs.declared.setup.Setup.{Setup}
+use Rattle.packing.specs.Codec.{onlyIf, fieldsIn, checked, thingOf, unpackOf}
+use Rattle.packing.specs.Setup.{codeOf, legal, setups}
+use Rattle.sound.specs.Sound.{between, soundEntries}
+use Rattle.series.specs.Series.{newSeries, noSeries, opened, soundTerms, soundSeries}
+use Rattle.series.proofs.SeriesFacts.{facts-series}
+
+only-some : {A : Type 0} (b : Bool) (u : Option A) (a : A) → onlyIf b u ≡ some a → (b ≡ true) × (u ≡ some a)
+only-some true u a h = (refl, h)
+only-some false u a h = absurd (let z : _≡_ {A = ℕ} 0 1 = cc in omega arith)
+
+-- "Setup of other length or values is refused": what unpacks has legal values
+pub setup-legal : (bytes : List ℕ) (x : Setup) → unpackOf setups bytes ≡ some x → legal x ≡ true
+unfolding unpackOf thingOf
+setup-legal bytes x h = go (setups .claimed (fieldsIn setups bytes)) (only-some (eqb (length bytes) 4) (thingOf setups (fieldsIn setups bytes)) x h .1)
+  where
+    l : List ℕ
+    l = fieldsIn setups bytes
+
+    go : (u : Option Setup) → checked setups u l ≡ some x → legal x ≡ true
+    go none k = absurd (let z : _≡_ {A = ℕ} 0 1 = cc in omega arith)
+    go (some d) k =
+        let p = only-some (equal (codeOf d) l && legal d) (some d) x k in
+        let q : some d ≡ some x = p .1 in
+        let same : d ≡ x = cc in
+        ap legal (sym same) ∙ and-right (equal (codeOf d) l) (legal d) (p .0)
+
+-- legal values give a sound series
+pub legal-sound : (x : Setup) → legal x ≡ true → soundSeries (newSeries x) ≡ true
+unfolding mpv given soundEntries all pairs
+legal-sound x h =
+    let step : Bool = eqb (x .m) 1 || (eqb (x .m) 5 || eqb (x .m) 10) in
+    let rest = and-right step (leb (x .k) 100 && between 1 100000 (x .strike)) h in
+    facts-series (newSeries x .terms) (replicate 16 false) []
+    (record {
+      step = and-left step (leb (x .k) 100 && between 1 100000 (x .strike)) h;
+      steps = leb-true (x .k) 100 (and-left (leb (x .k) 100) (between 1 100000 (x .strike)) rest);
+      strike = and-right (leb (x .k) 100) (between 1 100000 (x .strike)) rest;
+      phase = omega arith;
+      bid = refl;
+      offer = refl;
+      underlying = omega arith;
+      numbers = omega arith;
+    })
+    refl (omega arith) (record { closed = λ p. refl; halted = λ p. tt })
+
+-- EVERY SETUP THAT UNPACKS GIVES A SOUND SERIES
+pub setup-sound : (bytes : List ℕ) (x : Setup) → unpackOf setups bytes ≡ some x → soundSeries (newSeries x) ≡ true
+setup-sound bytes x h = legal-sound x (setup-legal bytes x h)
+
+-- NOBODY CAN USE WHAT STANDS FOR NO SERIES
+pub none-unsound : soundSeries noSeries ≡ false
+unfolding soundSeries soundTerms mpv
+none-unsound = refl
+
+-- so the answer to a setup is ok exactly where its series is sound
+pub opened-sound : (bytes : List ℕ) → opened (unpackOf setups bytes) .ok ≡ soundSeries (opened (unpackOf setups bytes) .series)
+opened-sound bytes = go (unpackOf setups bytes) refl
+  where
+    go : (u : Option Setup) → unpackOf setups bytes ≡ u → opened u .ok ≡ soundSeries (opened u .series)
+    go none k = sym none-unsound
+    go (some x) k = sym (setup-sound bytes x k)
