@@ -1,0 +1,162 @@
+#!/usr/bin/env python3
+"""Runs a program under test beside the model and stops at the first difference.
+
+    python3 tests/compare.py [--sessions N] [--messages M] [--seed S] [--seconds T]
+                             [--lessons DIR]... [--keep FILE] PROGRAM [ARGS..]
+
+PROGRAM reads a session on standard input and prints its lines.  First come the
+lessons: every DIR/NAME.bin must give NAME.out, from the model too.  Then N
+generated sessions of M messages, in all flavours by turns.  After T seconds no
+new session is begun; a program that takes 30 seconds over one session is stopped
+and counts as differing.
+
+At a difference it shows the session, the message in words and both outputs
+round it, and writes the session's bytes to FILE.  The last line says how many
+sessions and messages agreed.  The exit status is 0 only if every session begun
+agreed, every lesson was run and, if N is not 0, at least one session was.
+"""
+
+import argparse
+import glob
+import os
+import subprocess
+import sys
+import time
+
+from generate import FLAVOURS, generate
+from model import Series, session
+from words import message_words, messages_of, report_words, setup_words
+
+
+PATIENCE = 30       # seconds for one session
+
+
+class Difference(Exception):
+    """What differs: shown at the end, with exit status 1."""
+
+
+class TimeUp(Exception):
+    pass
+
+
+class Comparison:
+    def __init__(self, command, seconds, keep):
+        self.command, self.keep = command, keep
+        self.deadline = time.monotonic() + seconds
+        self.sessions = self.messages = 0
+
+    def run(self, data):
+        """The lines the program prints for a session."""
+        if time.monotonic() >= self.deadline:
+            raise TimeUp
+        try:
+            done = subprocess.run(self.command, input=data, stdout=subprocess.PIPE,
+                                  stderr=subprocess.PIPE, timeout=PATIENCE)
+        except subprocess.TimeoutExpired:
+            return ["(the program did not end within %d seconds)" % PATIENCE]
+        except OSError as error:
+            sys.exit("compare: cannot run %s: %s" % (self.command[0], error.strerror))
+        text = done.stdout.decode("ascii", "replace")
+        lines = text.split("\n")
+        if lines.pop() != "":
+            lines.append("(the output does not end with a line's end)")
+        if done.returncode != 0:
+            word = done.stderr.decode("utf-8", "replace").strip()
+            lines.append("(the program ended with status %d: %s)" % (done.returncode, word))
+        return lines
+
+    def judge(self, name, data, expected, program="the program", lines=None):
+        """Compare one session's lines with what was expected of it."""
+        lines = self.run(data) if lines is None else lines
+        if lines != expected:
+            with open(self.keep, "wb") as file:
+                file.write(data)
+            raise Difference(describe(name, data, expected, lines, program)
+                             + "\nThe session's bytes are in %s." % self.keep)
+
+    def agreed(self, data):
+        self.sessions += 1
+        self.messages += len(messages_of(data))
+
+    def lesson(self, path):
+        with open(path, "rb") as file:
+            data = file.read()
+        with open(path[:-len(".bin")] + ".out") as file:
+            expected = file.read().split("\n")[:-1]
+        name = "lesson " + os.path.basename(path)[:-len(".bin")]
+        self.judge(name, data, expected, "the model", session(data))
+        self.judge(name, data, expected)
+        self.agreed(data)
+
+    def generated(self, seed, messages, flavour):
+        data = generate(seed, messages, flavour)
+        self.judge("generate.py %s %s %s" % (seed, messages, flavour), data, session(data))
+        self.agreed(data)
+
+
+def describe(name, data, expected, lines, program):
+    """The first difference, in words."""
+    place = 0
+    while place < min(len(expected), len(lines)) and expected[place] == lines[place]:
+        place += 1
+    numbers = [int(side[place].split()[0]) for side in (expected, lines)
+               if place < len(side) and side[place].split()[0:1] and side[place].split()[0].isdigit()]
+    number = min(numbers) if numbers else 0
+    messages = messages_of(data)
+    text = ["DIFFERENCE in %s" % name, "setup: %s" % setup_words(data[:4])]
+    for earlier in range(max(1, number - 5), number + 1):
+        if earlier <= len(messages):
+            text.append("message %d: %s" % (earlier, message_words(messages[earlier - 1])))
+    text.append("output line %d, of message %d, differs" % (place + 1, number))
+    for title, side in (("expected:", expected), (program + ":", lines)):
+        text.append(title)
+        for at in range(max(0, place - 4), min(len(side), place + 5)):
+            text.append("  %s %-44s %s" % (">" if at == place else " ", side[at],
+                                           report_words(side[at])))
+        if place >= len(side):
+            text.append("  > (no more lines)")
+    return "\n".join(text)
+
+
+def main():
+    parser = argparse.ArgumentParser(description="Compare a session program with the model.")
+    parser.add_argument("--sessions", type=int, default=330)
+    parser.add_argument("--messages", type=int, default=200)
+    parser.add_argument("--seed", type=int, default=1)
+    parser.add_argument("--seconds", type=float, default=180)
+    parser.add_argument("--lessons", action="append", default=[], metavar="DIR")
+    parser.add_argument("--keep", default="difference.bin", metavar="FILE")
+    parser.add_argument("--no-checks", action="store_true", help="skip the model's own assertions")
+    parser.add_argument("command", nargs=argparse.REMAINDER, metavar="PROGRAM [ARGS..]")
+    options = parser.parse_args()
+    if not options.command:
+        parser.error("no PROGRAM given")
+    Series.checks = not options.no_checks
+    paths = [path for folder in options.lessons
+             for path in sorted(glob.glob(os.path.join(folder, "*.bin")))]
+    if options.lessons and not paths:
+        parser.error("no lessons in " + " ".join(options.lessons))
+
+    comparison = Comparison(options.command, options.seconds, options.keep)
+    flavours, note, good = list(FLAVOURS), "", True
+    try:
+        for path in paths:
+            comparison.lesson(path)
+        for number in range(options.sessions):
+            comparison.generated(options.seed + number, options.messages,
+                                 flavours[number % len(flavours)])
+    except TimeUp:
+        good = comparison.sessions >= len(paths) + min(options.sessions, 1)
+        note = "; stopped by the clock"
+    except Difference as difference:
+        print(difference)
+        good = False
+    lessons = min(comparison.sessions, len(paths))
+    print("%s: %d lessons and %d generated sessions, %d messages, agree%s"
+          % ("agreed" if good else "NOT agreed", lessons, comparison.sessions - lessons,
+             comparison.messages, note))
+    sys.exit(0 if good else 1)
+
+
+if __name__ == "__main__":
+    main()

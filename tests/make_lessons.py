@@ -1,0 +1,154 @@
+#!/usr/bin/env python3
+"""Makes tests/lessons/NAME.bin and NAME.out.
+
+    python3 tests/make_lessons.py           writes the lessons
+    python3 tests/make_lessons.py --check   only says whether they are up to date
+
+The short lessons stand in tests/lesson_sources/*.txt, a message a line in the
+words of words.py.  The indented lines below a message are the reports it must
+give, worked out by hand from document 01; below `setup` stands what a refused
+setup prints.  A lesson is written only if the model agrees with every line.
+
+The long lessons stand below, as programs.  Their output is the model's.
+"""
+
+import glob
+import os
+import sys
+from itertools import zip_longest
+
+from model import session
+from packed import messages_of
+from words import message_bytes, report_line, setup_bytes
+
+HERE = os.path.dirname(os.path.abspath(__file__))
+
+
+def read_source(path):
+    """{name: (bytes, expected lines)} of one source file."""
+    lessons, name = {}, None
+    with open(path) as file:
+        for line in file:
+            words = line.split()
+            if not words or words[0].startswith("#"):
+                continue
+            if words[0] == "lesson":
+                name = words[1]
+                assert name not in lessons, "two lessons are named " + name
+                lessons[name] = (bytearray(), [])
+            elif words[0] == "setup":
+                lessons[name][0].extend(setup_bytes(" ".join(words[1:])))
+            elif line[0].isspace():
+                data, expected = lessons[name]
+                expected.append(report_line(len(messages_of(data)), line))
+            else:
+                lessons[name][0].extend(message_bytes(line))
+    return lessons
+
+
+# ---------------------------------------------------------------- the long lessons
+
+SETUP = "call exempt M 1 K 100 strike 200"
+
+
+def full_book():
+    """64 entries rest: what is refused, what replaces, what a sweep takes, how it closes."""
+    lines = ["open", "away none 500"]
+    lines += ["mmrp sell %d %d x 2" % (maker, 200 + maker) for maker in range(1, 9)]
+    lines += ["mmalo buy %d 210 x 3" % maker for maker in range(1, 9)]
+    lines += ["order sell 50 %d x 1" % (230 + i % 7) for i in range(24)]
+    lines += ["dark buy 51 %d x 1" % (150 + i % 5) for i in range(24)]
+    lines += ["plain sell 9 300 x 1", "order buy 52 1 x 1", "dark sell 52 100000 x 1",
+              "order buy 52 201 x 1"]                       # it would only trade: refused
+    lines += ["plain sell 3 290 x 1", "mmrp sell 3 203 x 4", "mmalo buy 4 205 x 9"]
+    lines += ["cancel 50 #17", "plain sell 9 300 x 1", "plain sell 10 300 x 1"]
+    lines += ["cancel 51 #60", "away none none", "order buy 53 240 x 500", "away 1 2", "close"]
+    return SETUP, lines
+
+
+def blocked_in_a_full_book():
+    """A blocked maker in a full book: 6 is tested before 7."""
+    lines = ["open", "underlying 100", "plain buy 3 90 x 1", "mmrp buy 3 100 x 1"]
+    lines += ["order buy 50 %d x 1" % (10 + i) for i in range(64)]
+    lines += ["plain buy 3 9 x 1", "plain buy 4 9 x 1", "order buy 50 9 x 1", "cancel 50 #1",
+              "enable 3", "plain buy 3 9 x 1", "cancel 50 #5", "plain buy 3 9 x 1",
+              "plain buy 3 100 x 1", "plain buy 4 9 x 1"]
+    return "call tested M 1 K 10 strike 200", lines
+
+
+def long_settling_of_sells():
+    """64 entries, and one away move that settles in hundreds of steps: MMALO sells follow
+    an MMRP sell that takes buy after buy."""
+    lines = ["open", "away 1020 1000"]
+    lines += ["%s buy %d %d x 1" % (("mmrp", "mmalo")[i % 2], i + 1, 1019 - i) for i in range(16)]
+    lines += ["mmalo sell %d 921 x 1" % maker for maker in range(1, 16)]
+    lines += ["mmrp sell 16 921 x 99999"]
+    lines += ["%s buy 50 %d x 1" % (("dark", "order")[i % 2], 998 - i) for i in range(32)]
+    return SETUP, lines + ["away none none", "close"]
+
+
+def one_order_takes_64():
+    """64 entries rest on one side: an order is refused by 7, then takes the other 63."""
+    lines = ["open"] + ["order sell 50 %d x %d" % (200 + i // 4, i + 1) for i in range(60)]
+    lines += ["dark sell 50 %d x 1" % (200 + i) for i in range(3)]
+    lines += ["mmrp sell 3 190 x 5", "mmrp sell 3 205 x 5", "order buy 51 300 x 99999",
+              "withdraw 3 sell", "order buy 51 300 x 99999", "close"]
+    return SETUP, lines
+
+
+def both_sides_climb():
+    """Sliding quotes on both sides at M 10: away prices walk up and down, step by step."""
+    lines = ["open", "away 2000 2100"]
+    lines += ["mmrp buy %d %d x 5" % (maker, 2090 + 10 * maker) for maker in range(1, 7)]
+    lines += ["mmalo sell %d %d x 5" % (maker, 2150 - 10 * maker) for maker in range(7, 13)]
+    lines += ["dark sell 50 2130 x 4", "dark buy 50 2060 x 4"]
+    for offer in (2090, 2080, 2110, 2130, 2070, 2150):
+        lines += ["away %d %d" % (offer - 90, offer), "away %d %d" % (offer + 20, offer)]
+    return SETUP.replace("M 1", "M 10"), lines + ["away none none", "close"]
+
+
+LONG = {"full-book-of-64": full_book, "blocked-maker-in-a-full-book": blocked_in_a_full_book,
+        "long-settling-of-sells-in-a-full-book": long_settling_of_sells,
+        "one-order-against-64-entries": one_order_takes_64,
+        "away-prices-walk-with-m-10": both_sides_climb}
+
+
+def all_lessons():
+    lessons = {}
+    for path in sorted(glob.glob(os.path.join(HERE, "lesson_sources", "*.txt"))):
+        for name, (data, expected) in read_source(path).items():
+            assert name not in lessons, "two lessons are named " + name
+            lines = session(bytes(data))
+            if lines != expected:
+                pairs = zip_longest(expected, lines, fillvalue="(nothing)")
+                wrong = next(pair for pair in pairs if pair[0] != pair[1])
+                sys.exit("%s: the source says %r, the model says %r" % (name, *wrong))
+            lessons[name] = (bytes(data), lines)
+    for name, program in LONG.items():
+        setup, messages = program()
+        data = setup_bytes(setup) + b"".join(message_bytes(line) for line in messages)
+        lessons[name] = (data, session(data))
+    return lessons
+
+
+def main(arguments):
+    folder, stale = os.path.join(HERE, "lessons"), []
+    os.makedirs(folder, exist_ok=True)
+    lessons = all_lessons()
+    for name, (data, lines) in lessons.items():
+        text = "".join(line + "\n" for line in lines).encode()
+        for suffix, content in ((".bin", data), (".out", text)):
+            path = os.path.join(folder, name + suffix)
+            if arguments == ["--check"]:
+                if not os.path.exists(path) or open(path, "rb").read() != content:
+                    stale.append(name + suffix)
+            else:
+                with open(path, "wb") as file:
+                    file.write(content)
+    if stale:
+        sys.exit("not up to date: " + " ".join(stale))
+    print("%d lessons, %d of them worked out by hand" % (len(lessons), len(lessons) - len(LONG)))
+
+
+if __name__ == "__main__":
+    main(sys.argv[1:])
