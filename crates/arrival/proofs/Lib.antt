@@ -14,6 +14,7 @@ pub mod OwnSide
 pub mod ArriveTells
 pub mod ForTheClass
 pub mod EnterLaws
+pub mod EnteredLaws
 pub mod SweepingLaws
 pub mod TurnLaws
 pub mod ThenSettles

@@ -1,4 +1,4 @@
-use Rattle.arrival.proofs.EnterLaws.{enter-replaces, enter-takes, enter-finishes, enter-done}
+use Rattle.arrival.proofs.EnteredLaws.{enter-replaces, enter-takes, enter-finishes, enter-done}
 use borrow.Author.Needs.{needs}
 use Rattle.arrival.proofs.arrive.enter.Statement.{statement}
 use Rattle.arrival.proofs.arrive.enter.Tie as tie

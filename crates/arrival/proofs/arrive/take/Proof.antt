@@ -1,6 +1,6 @@
 use Rattle.prices.specs.Aims.{minds}
 use mathlib.Core.Path.{sym, ap, _∙_}
-use Rattle.arrival.proofs.EnterLaws.{take-minds, take-asks, take-took}
+use Rattle.arrival.proofs.EnteredLaws.{take-minds, take-asks, take-took}
 use borrow.Author.Needs.{needs}
 use Rattle.arrival.proofs.arrive.take.Statement.{statement}
 use Rattle.arrival.proofs.arrive.take.Tie as tie

@@ -1,0 +1,151 @@
+-- Laws of an arrival as the code goes about it: trades, an arrival that is not rejected, and either.
+-- Assumes nothing.
+use Prim.Native.Nat.{ℕ, zero, suc, _+_, _≤_, _<_}
+use mathlib.Core.Path.{_≡_, refl, sym, ap, _∙_, subst}
+use mathlib.Core.Bool.{Bool, true, false, cond, not, _&&_, _||_}
+use mathlib.Core.List.{List, [], _∷_, _++_}
+use native.Mathlib.Omega.{arith}
+use lib.Dec.{eqb}
+use lib.ListN.{length}
+use borrow.Author.Tests.{eqb-true}
+use Rattle.prices.specs.declared.Market.{Market}
+use Rattle.prices.specs.declared.Guard.{Guard}
+use Rattle.prices.specs.Side.{away}
+use Rattle.prices.specs.Step.{mpv, given}
+use Rattle.prices.specs.Aims.{minds}
+use Rattle.prices.specs.Protect.{protection, Cents}
+use Rattle.prices.proofs.StepLaws.{Given, given-is, given-none, given-legal, is-legal}
+use Rattle.lists.specs.Tests.{All}
+use Rattle.lists.specs.Run.{Step, stop, go, Ran, still, leading, ran}
+use Rattle.lists.proofs.RunLaws.{run-stop, run-go}
+use Rattle.lists.proofs.Bools.{and-left}
+use Rattle.lists.proofs.TestLaws.{all-map}
+use Rattle.packing.specs.declared.report.Report.{Report}
+use Rattle.packing.specs.Room.{written}
+use Rattle.packing.proofs.RoomLaws.{written-none}
+use Rattle.book.specs.declared.Entry.{Entry}
+use Rattle.book.specs.declared.Book.{Book}
+use Rattle.book.specs.declared.Pricing.{Pricing}
+use Rattle.book.specs.declared.Pricing.the-variants.{Fixed, Dark, Sliding}
+use Rattle.book.specs.Entries.{quote, display, shownAs}
+use Rattle.book.specs.Look.{national}
+use Rattle.book.specs.Shape.{entriesOf, bookOf, WellFormed, Space}
+use Rattle.book.specs.Change.{post}
+use Rattle.book.proofs.ShapeLaws.{length-entries, book-of-entries, entries-of-book, holds}
+use Rattle.book.proofs.ChangeLaws.{post-fits}
+use Rattle.sound.proofs.Facts.{EntryFacts, PricedAs, Sound}
+use Rattle.sound.proofs.FrontLaws.{given-nearest, given-contra}
+use Rattle.settling.specs.Tell.{rejected, traded, rested, cancelled}
+use Rattle.settling.specs.Stage.{soundMarket, Roomy, Staged, andThen}
+use Rattle.settling.proofs.EaseRule.{MarketFacts, market-facts}
+use Rattle.settling.proofs.Settles.{sound-for}
+use Rattle.arrival.specs.declared.Terms.{Terms}
+use Rattle.arrival.specs.declared.take.Trade.{Trade}
+use Rattle.arrival.specs.Terms.{marketOf, guardOf}
+use Rattle.arrival.specs.Cancel.{Asks, cutQuote}
+use Rattle.settling.specs.Stage.{Put}
+use Rattle.arrival.specs.Take.{Taking, bound, nextTake, chances, taken, took}
+use Rattle.arrival.specs.Post.{pricesOf, resting, stopFor, Posts}
+use Rattle.arrival.specs.Arrive.{told, ofQuotes, bothQuotes, rejectedBy, replaced, posted, remainder, cancelledRest, finished, entered, noneTraded, stopsAtOnce, protectionFor, orElse, rejection, arrivedAs, arrived}
+use Rattle.arrival.specs.Asks.{Arriving, Enters, Arrives, Takes, TakesOn, TookAs, takingOf, tradeAs, NextTrade, Rests, Finishes}
+use Rattle.arrival.proofs.StageLaws.{roomy-first, staged-list, staged-then, staged-room, staged-none, staged-as, roomy-as}
+use Rattle.arrival.proofs.TakeLaws.{take-falls, took-length, took-sound}
+use Rattle.arrival.proofs.ArriveKeeps.{goesOn, replaced-stage}
+use Rattle.arrival.proofs.EnterLaws.{arrived-enters, arrived-rejected, posts-of}
+
+-- ---- trades ----
+
+module _ {t : Terms} {e : Entry} {b : Book} {left : ℕ} {room : List ℕ} {n : ℕ} (a : TakesOn t e b left room n) where
+  pub take-minds : minds (e .kind) ≡ true → TookAs (took (marketOf t) e (entriesOf b)) room n b left room n
+  unfolding took still
+  take-minds q = rw q (record {
+    book = book-of-entries b (a .well);
+    well = a .well;
+    left = a .whole;
+    bytes = sym (written-none room n);
+    count = omega arith;
+  })
+
+  module _ (k : Market) (cap : ℕ) (q : minds (e .kind) ≡ false) (p : k ≡ marketOf t) (w : cap ≡ bound k e) where
+    same-run : taken cap e (takingOf left b) ≡ took (marketOf t) e (entriesOf b)
+    unfolding took
+    same-run = rw (q, w, p, a .whole) refl
+
+    pub take-asks : Takes (taken cap e (takingOf left b)) b room n
+    take-asks = record { well = a .well; roomy = roomy-as (ap (λ (x : Ran Taking Report). x .records) (sym same-run)) (a .roomy) }
+
+    pub take-took : {c : Book} {left′ : ℕ} {room′ : List ℕ} {n′ : ℕ} → TookAs (taken cap e (takingOf left b)) room n c left′ room′ n′
+        → TookAs (took (marketOf t) e (entriesOf b)) room n c left′ room′ n′
+    take-took {c} {left′} {room′} {n′} x = subst (λ (y : Ran Taking Report). TookAs y room n c left′ room′ n′) same-run x
+
+-- ---- an arrival that is not rejected ----
+
+module _ {t : Terms} {e : Entry} {b : Book} {room : List ℕ} {n : ℕ} (a : Arrives (entered t e (entriesOf b)) t e b room n) where
+  all-room : Roomy room n (andThen (replaced e (entriesOf b)) (goesOn t e) .records)
+  unfolding entered
+  all-room = a .roomy
+
+  pub enter-replaces : Asks (replaced e (entriesOf b)) b room n
+  enter-replaces = record { well = a .enters .well; roomy = roomy-first (replaced e (entriesOf b) .records) _ all-room }
+
+  module _ {c : Book} {room′ : List ℕ} {n′ : ℕ} (x : Staged (replaced e (entriesOf b)) room n c room′ n′) where
+    rest-of-room : Roomy room′ n′ (goesOn t e (entriesOf c) .records)
+    rest-of-room = staged-room x (goesOn t e) all-room
+
+    pub enter-takes : TakesOn t e c (e .quantity) room′ n′
+    enter-takes = record { well = x .well; whole = refl; roomy = roomy-first (took (marketOf t) e (entriesOf c) .records) _ rest-of-room }
+
+    module _ {d : Book} {left : ℕ} {room″ : List ℕ} {n″ : ℕ} (y : TookAs (took (marketOf t) e (entriesOf c)) room′ n′ d left room″ n″) where
+      abbrev run : Ran Taking Report
+      run = took (marketOf t) e (entriesOf c)
+
+      taken-stage : Staged (record { final = run .final .book; records = run .records }) room′ n′ d room″ n″
+      taken-stage = record { book = y .book; well = y .well; bytes = y .bytes; count = y .count }
+
+      rests : entriesOf d ≡ run .final .book
+      rests = staged-list taken-stage
+
+      abbrev ending : List Entry → Ran (List Entry) Report
+      ending = finished t e (run .final .left) (stopFor t e (run .final .book))
+
+      same-ending : ending (entriesOf d) ≡ finished t e left (stopFor t e (entriesOf d)) (entriesOf d)
+      same-ending = rw (y .left, rests) refl
+
+      sound-after : Sound (t .m) (t .given) (entriesOf d)
+      sound-after =
+          rw rests (took-sound (marketOf t) e (entriesOf c) (rw (staged-list x) (replaced-stage t e (entriesOf b) (a .enters .arriving) .sound)))
+
+      pub enter-finishes : Finishes t e d left room″ n″
+      enter-finishes = record {
+        posts = posts-of t e d (a .enters .arriving .market) (a .enters .arriving .steps) (y .well) sound-after;
+        space = omega (
+          arith,
+          length-entries d (y .well),
+          ap length rests,
+          took-length (marketOf t) e (entriesOf c),
+          ap length (staged-list x),
+          a .enters .arriving .space,
+        );
+        roomy = roomy-as (ap (λ (z : Ran (List Entry) Report). z .records) same-ending) (staged-room taken-stage ending rest-of-room);
+      }
+
+      pub enter-done : {last : Book} {room‴ : List ℕ} {n‴ : ℕ} → Staged (finished t e left (stopFor t e (entriesOf d)) (entriesOf d)) room″ n″ last room‴ n‴
+          → Staged (entered t e (entriesOf b)) room n last room‴ n‴
+      unfolding entered
+      enter-done z = staged-then x (goesOn t e) (staged-then taken-stage ending (staged-as (sym same-ending) z))
+
+-- ---- either ----
+
+module _ {t : Terms} {e : Entry} {b : Book} {room : List ℕ} {n : ℕ} (a : Arrives (arrived t e (entriesOf b)) t e b room n) (why : ℕ)
+    (is : why ≡ rejection t e (entriesOf b)) where
+  pub arrive-rejects : (why ≡ 0 → ⊥) → Asks (rejectedBy why e (entriesOf b)) b room n
+  arrive-rejects h = record {
+    well = a .enters .well;
+    roomy = roomy-as (ap (λ (x : Ran (List Entry) Report). x .records) (arrived-rejected t e (entriesOf b) why is h)) (a .roomy);
+  }
+
+  pub arrive-enters : why ≡ 0 → Arrives (entered t e (entriesOf b)) t e b room n
+  arrive-enters h = record {
+    enters = a .enters;
+    roomy = roomy-as (ap (λ (x : Ran (List Entry) Report). x .records) (arrived-enters t e (entriesOf b) why is h)) (a .roomy);
+  }
