@@ -12,7 +12,7 @@ fn wide(x: u8) -> u32
     x as u32
 }
 
-pub fn number_at(bytes: &[u8; 1548], at: usize) -> u32
+pub(crate) fn number_at(bytes: &[u8; 1548], at: usize) -> u32
     requires { ⌜ at + 4 ≤ 1548 ⌝ }
 {
     let high = wide(bytes[at]) * 256 + wide(bytes[at + 1]);
@@ -46,7 +46,7 @@ fn entry_at(bytes: &[u8; 1548], at: usize) -> Entry
     }
 }
 
-pub fn book_of(bytes: &[u8; 1548]) -> Book {
+pub(crate) fn book_of(bytes: &[u8; 1548]) -> Book {
     let mut b = book::change::empty();
     b.count = number_at(bytes, 8) as usize;
     let mut i = 0usize;

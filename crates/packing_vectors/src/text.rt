@@ -3,17 +3,17 @@ ghost use Prim.Native.Nat.{_<_, _≤_};
 ghost use lib.ListN.{length};
 use libc::STDOUT_FILENO;
 
-pub fn print(text: &[u8]) {
+pub(crate) fn print(text: &[u8]) {
     io::write_all(STDOUT_FILENO, text);
 }
 
 // A number with a space in front.
-pub fn print_next(n: u32) {
+pub(crate) fn print_next(n: u32) {
     print(b" ");
     io::print_decimal(STDOUT_FILENO, n as u64);
 }
 
-pub fn print_all(ns: &[u32]) {
+pub(crate) fn print_all(ns: &[u32]) {
     let mut i = 0;
     while i < ns.len() {
         print_next(ns[i]);
@@ -22,13 +22,13 @@ pub fn print_all(ns: &[u32]) {
 }
 
 // A byte as a number that sums have room in.
-pub fn wide(x: u8) -> u32
+pub(crate) fn wide(x: u8) -> u32
     ensures { λ r. ⌜ r < 256 ⌝ }
 {
     x as u32
 }
 
-pub fn print_bytes(bytes: &[u8]) {
+pub(crate) fn print_bytes(bytes: &[u8]) {
     let mut i = 0;
     while i < bytes.len() {
         io::print_hex(STDOUT_FILENO, wide(bytes[i]) as u64, 2);
@@ -37,7 +37,7 @@ pub fn print_bytes(bytes: &[u8]) {
 }
 
 // Where the line that starts at `at` ends: at its line end, or at the text's end.
-pub fn line_end(text: &[u8], at: usize) -> usize
+pub(crate) fn line_end(text: &[u8], at: usize) -> usize
     requires { ⌜ at < length (now text) ⌝ }
     ensures { λ r. ⌜ (at ≤ r) × (r ≤ length (now (text .entry))) ⌝ }
 {
@@ -71,7 +71,7 @@ fn digit(b: u8) -> u8
 }
 
 // Puts the bytes that the digits from `from` to `to` spell at the start of out, as far as they fit, and answers how many there are.
-pub fn gather(text: &[u8], from: usize, to: usize, out: &mut [u8]) -> usize
+pub(crate) fn gather(text: &[u8], from: usize, to: usize, out: &mut [u8]) -> usize
     requires { ⌜ to ≤ length (now text) ⌝ }
     ensures { λ r. ⌜ r ≤ length (now (out .exit)) ⌝ }
 {
@@ -93,7 +93,7 @@ pub fn gather(text: &[u8], from: usize, to: usize, out: &mut [u8]) -> usize
 }
 
 // Whether the run has these bytes at a place.
-pub fn stands(bytes: &[u8], run: &[u8], at: usize) -> bool {
+pub(crate) fn stands(bytes: &[u8], run: &[u8], at: usize) -> bool {
     if run.len() < at {
         return false;
     }
@@ -111,7 +111,7 @@ pub fn stands(bytes: &[u8], run: &[u8], at: usize) -> bool {
 }
 
 // The number that four bytes make.
-pub fn number(bytes: &[u8]) -> u32 {
+pub(crate) fn number(bytes: &[u8]) -> u32 {
     if bytes.len() < 4 {
         return 0;
     }

@@ -51,14 +51,14 @@ fn tell_message(u: packing::message::Unpacked, run: &[u8], at: usize) {
     print_same(p.ok, stands(&bytes, run, at));
 }
 
-pub fn message(part: &[u8]) {
+pub(crate) fn message(part: &[u8]) {
     print(b"message");
     let u = packing::message::unpack(part);
     tell_message(u, part, 0);
 }
 
 // The first byte is the place, and the others are the run.
-pub fn in_run(part: &[u8]) {
+pub(crate) fn in_run(part: &[u8]) {
     print(b"run");
     if part.len() == 0 {
         return;
@@ -69,7 +69,7 @@ pub fn in_run(part: &[u8]) {
     tell_message(u, run, at);
 }
 
-pub fn report(part: &[u8]) {
+pub(crate) fn report(part: &[u8]) {
     print(b"report");
     let u = packing::report::unpack(part);
     let packing::report::Unpacked::Told(r) = u else {
@@ -83,7 +83,7 @@ pub fn report(part: &[u8]) {
     print_same(p.ok, stands(&bytes, part, 0));
 }
 
-pub fn setup(part: &[u8]) {
+pub(crate) fn setup(part: &[u8]) {
     print(b"setup");
     let u = packing::setup::unpack(part);
     let packing::setup::Unpacked::Series(s) = u else {
@@ -115,7 +115,7 @@ fn print_put_first(room: &mut [u8], n: usize, at: usize, r: Report) {
 }
 
 // The first byte is the room's length, the second the place, and the others are the report.
-pub fn in_room(part: &[u8]) {
+pub(crate) fn in_room(part: &[u8]) {
     print(b"room");
     if part.len() < 2 {
         return;
@@ -210,7 +210,7 @@ fn setup_widths(n: u32) -> [u32; 3] {
 }
 
 // Which values pack that have this number in one field, and small ones in the others.
-pub fn widths(part: &[u8]) {
+pub(crate) fn widths(part: &[u8]) {
     print(b"widths");
     let n = crate::text::number(part);
     let a = message_widths(n);

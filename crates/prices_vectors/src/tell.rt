@@ -16,11 +16,11 @@ use prices::step::is_given;
 use prices::step::is_legal;
 use prices::step::is_mpv;
 
-pub fn end() {
+pub(crate) fn end() {
     io::write_all(STDOUT_FILENO, b"\n");
 }
 
-pub fn nothing() {
+pub(crate) fn nothing() {
     io::write_all(STDOUT_FILENO, b"-");
 }
 
@@ -42,14 +42,14 @@ fn truth(b: bool) {
     }
 }
 
-pub fn aims(kind: u32, side: u32, limit: u32, away: u32, contra: u32, m: u32) {
+pub(crate) fn aims(kind: u32, side: u32, limit: u32, away: u32, contra: u32, m: u32) {
     let r = request_aims(kind, side, limit, away, contra, m);
     number(r.refusal);
     then(r.display);
     then(r.working);
 }
 
-pub fn protection(
+pub(crate) fn protection(
     put: bool,
     exempt: bool,
     strike: u32,
@@ -73,7 +73,7 @@ pub fn protection(
     number(protection_of(guard, sell, best, limit));
 }
 
-pub fn stop(
+pub(crate) fn stop(
     m: u32,
     k: u32,
     kind: u32,
@@ -92,34 +92,34 @@ pub fn stop(
     nothing();
 }
 
-pub fn resting(sell: bool, shown: u32, display: u32, working: u32) {
+pub(crate) fn resting(sell: bool, shown: u32, display: u32, working: u32) {
     let aim = Prices { display, working };
     let r = resting_of(sell, shown, aim);
     number(r.display);
     then(r.working);
 }
 
-pub fn eased(sell: bool, away: u32, display: u32, working: u32) {
+pub(crate) fn eased(sell: bool, away: u32, display: u32, working: u32) {
     number(eased_to(sell, away, display, working));
 }
 
-pub fn best(sell: bool, away: u32, shown: u32) {
+pub(crate) fn best(sell: bool, away: u32, shown: u32) {
     number(nearer_of(sell, away, shown));
 }
 
-pub fn away(sell: bool, bid: u32, offer: u32) {
+pub(crate) fn away(sell: bool, bid: u32, offer: u32) {
     let market = Market { m: 1, bid, offer };
     number(away_of(market, sell));
 }
 
-pub fn legal(m: u32, p: u32) {
+pub(crate) fn legal(m: u32, p: u32) {
     if is_mpv(m) {
         return truth(is_legal(m, p));
     }
     nothing();
 }
 
-pub fn restless(
+pub(crate) fn restless(
     m: u32,
     kind: u32,
     sell: bool,
@@ -139,7 +139,7 @@ pub fn restless(
     nothing();
 }
 
-pub fn slide(m: u32, sell: bool, limit: u32, display: u32, working: u32) {
+pub(crate) fn slide(m: u32, sell: bool, limit: u32, display: u32, working: u32) {
     if is_mpv(m) {
         return truth(is_slide(m, sell, limit, display, working));
     }

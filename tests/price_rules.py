@@ -1,0 +1,230 @@
+"""The price rules, from the words of document 01 alone: once for a buy and once for a sell, so that a slip in one shows against the other.
+
+price_vectors.py puts its questions to `ASK`, by name; a rule answers None for a question outside what it is for.
+"""
+
+PLAIN, MMLO, MMALO, MMRP, DISPLAYED, DARK = 1, 2, 3, 4, 5, 6
+BUY, SELL = 0, 1
+MPVS = (1, 5, 10)
+MOST = 4294967295
+NONE = 0
+
+
+# ---- document 01, "Numbers" ----
+
+def legal(m, price):
+    """Prices are cents, from M to 100,000 and multiples of M."""
+    return m <= price <= 100000 and price % m == 0
+
+
+def none_or_legal(m, price):
+    """An away bid or away offer of 0 means none."""
+    return price == NONE or legal(m, price)
+
+
+# ---- document 01, "Prices an entry has", for a buy: L the limit, A the away offer, C the lowest working price of any sell ----
+
+def buy_aims(m, kind, limit, away_offer, lowest_sell):
+    display, working = [limit], [limit]
+    if away_offer != NONE:
+        display.append(away_offer - m)
+        working.append(away_offer)
+    if kind == MMALO and lowest_sell != NONE:
+        display.append(lowest_sell - m)
+        working.append(lowest_sell - m)
+    return min(display), min(working)
+
+
+def buy_marketable(kind, working_aim, lowest_sell):
+    return kind == MMRP and lowest_sell != NONE and working_aim >= lowest_sell
+
+
+def buy_resting(display, display_aim, working_aim):
+    shown = max(display, display_aim)
+    return shown, max(shown, working_aim)
+
+
+def buy_eased(away_offer, display, working):
+    if away_offer != NONE and working > away_offer:
+        return max(display, away_offer)
+    return working
+
+
+def buy_sound(m, limit, display, working):
+    return legal(m, display) and legal(m, working) and working >= display and working - display <= m and working <= limit
+
+
+# ---- the same for a sell, the mirror image: L the limit, B the away bid, C the highest working price of any buy ----
+
+def sell_aims(m, kind, limit, away_bid, highest_buy):
+    display, working = [limit], [limit]
+    if away_bid != NONE:
+        display.append(away_bid + m)
+        working.append(away_bid)
+    if kind == MMALO and highest_buy != NONE:
+        display.append(highest_buy + m)
+        working.append(highest_buy + m)
+    return max(display), max(working)
+
+
+def sell_marketable(kind, working_aim, highest_buy):
+    return kind == MMRP and highest_buy != NONE and working_aim <= highest_buy
+
+
+def sell_resting(display, display_aim, working_aim):
+    shown = min(display, display_aim)
+    return shown, min(shown, working_aim)
+
+
+def sell_eased(away_bid, display, working):
+    if away_bid != NONE and working < away_bid:
+        return min(display, away_bid)
+    return working
+
+
+def sell_sound(m, limit, display, working):
+    return legal(m, display) and legal(m, working) and working <= display and display - working <= m and working >= limit
+
+
+# ---- document 01, "Arrival": price protection. Offers are no mirror image of bids here ----
+
+def best_offer(away_offer, lowest_displayed_sell):
+    offers = [p for p in (away_offer, lowest_displayed_sell) if p != NONE]
+    return min(offers) if offers else NONE
+
+
+def best_bid(away_bid, highest_displayed_buy):
+    bids = [p for p in (away_bid, highest_displayed_buy) if p != NONE]
+    return max(bids) if bids else NONE
+
+
+def bid_protection(put, exempt, strike, underlying, nbo, bid):
+    if not put and not exempt and underlying != NONE and bid >= underlying:
+        return 25
+    if put and not exempt and bid >= strike:
+        return 26
+    if nbo != NONE and nbo <= 100 and bid >= nbo + 100:
+        return 24
+    if nbo != NONE and nbo > 100 and 2 * (bid - nbo) >= nbo:
+        return 24
+    return 0
+
+
+def offer_protection(nbb, offer):
+    if nbb != NONE and nbb > 100 and 2 * (nbb - offer) >= nbb:
+        return 24
+    return 0
+
+
+# ---- document 01, "Arrival": what is left posts, unless ----
+
+def buy_stop(m, k, kind, limit, away_offer, hidden, display):
+    slides = kind in (MMALO, MMRP)
+    if not slides and away_offer != NONE and limit >= away_offer:
+        return 20
+    if hidden:
+        return 21
+    if slides and display < m:
+        return 23
+    if slides and limit - display > k * m:
+        return 22
+    return 0
+
+
+def sell_stop(m, k, kind, limit, away_bid, hidden, display):
+    slides = kind in (MMALO, MMRP)
+    if not slides and away_bid != NONE and limit <= away_bid:
+        return 20
+    if hidden:
+        return 21
+    if slides and display > 100000:
+        return 23
+    if slides and display - limit > k * m:
+        return 22
+    return 0
+
+
+# ---- document 01, "Reports": the request for aims ----
+
+def request(kind, side, limit, away, contra, m):
+    if kind not in (MMALO, MMRP) or side > 1 or m not in MPVS:
+        return 1, 0, 0
+    if not legal(m, limit) or not none_or_legal(m, away) or not none_or_legal(m, contra):
+        return 3, 0, 0
+    if side == BUY:
+        return (0, *buy_aims(m, kind, limit, away, contra))
+    return (0, *sell_aims(m, kind, limit, away, contra))
+
+
+# ---- the ten kinds of question ----
+
+def answer_aims(kind, side, limit, away, contra, m):
+    return request(kind, side, limit, away, contra, m)
+
+
+def answer_protection(put, exempt, strike, underlying, side, best, limit):
+    if best > 100000 or limit > 100000:
+        return None
+    if side == BUY:
+        return (bid_protection(put, exempt, strike, underlying, best, limit),)
+    return (offer_protection(best, limit),)
+
+
+def answer_stop(m, k, kind, side, limit, away, hidden, display):
+    if m not in MPVS or k > 100:
+        return None
+    rule = buy_stop if side == BUY else sell_stop
+    return (rule(m, k, kind, limit, away, hidden, display),)
+
+
+def answer_resting(side, display, display_aim, working_aim):
+    return (buy_resting if side == BUY else sell_resting)(display, display_aim, working_aim)
+
+
+def answer_eased(side, away, display, working):
+    return ((buy_eased if side == BUY else sell_eased)(away, display, working),)
+
+
+def answer_legal(m, price):
+    if m not in MPVS:
+        return None
+    return (int(legal(m, price)),)
+
+
+def answer_restless(m, kind, side, limit, away, contra, display, working):
+    if m not in MPVS or not none_or_legal(m, away) or not none_or_legal(m, contra):
+        return None
+    if side == BUY:
+        aims = buy_aims(m, kind, limit, away, contra)
+        return (int(buy_marketable(kind, aims[1], contra) or (display, working) != buy_resting(display, *aims)),)
+    aims = sell_aims(m, kind, limit, away, contra)
+    return (int(sell_marketable(kind, aims[1], contra) or (display, working) != sell_resting(display, *aims)),)
+
+
+def answer_slide(m, side, limit, display, working):
+    if m not in MPVS:
+        return None
+    return (int((buy_sound if side == BUY else sell_sound)(m, limit, display, working)),)
+
+
+def answer_best(side, away, shown):
+    return ((best_offer if side == BUY else best_bid)(away, shown),)
+
+
+def answer_away(side, bid, offer):
+    """A is the away offer; for a sell, its mirror image, the away bid."""
+    return (offer if side == BUY else bid,)
+
+
+ASK = {
+    "aims": (1, answer_aims),
+    "protection": (2, answer_protection),
+    "stop": (3, answer_stop),
+    "resting": (4, answer_resting),
+    "eased": (5, answer_eased),
+    "legal": (6, answer_legal),
+    "restless": (7, answer_restless),
+    "slide": (8, answer_slide),
+    "best": (9, answer_best),
+    "away": (10, answer_away),
+}
