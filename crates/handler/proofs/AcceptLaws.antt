@@ -4,11 +4,7 @@ use Prim.Native.Nat.{ℕ, _≤_}
 use mathlib.Core.Path.{_≡_, refl, sym, ap, _∙_, subst}
 use mathlib.Core.Bool.{Bool, true, false, cond, _&&_}
 use mathlib.Core.List.{List, [], _∷_}
-use mathlib.Core.Option.{Option, none, some}
 use native.Mathlib.Omega.{arith}
-use Rattle.packing.specs.declared.message.Event.{Event}
-use Rattle.packing.specs.declared.message.Unpacked.the-variants.{Message, Nothing}
-use Rattle.packing.specs.Message.{unpacked}
 use lib.Dec.{eqb}
 use lib.ListN.{length}
 use borrow.Author.Tests.{eq-eqb, ne-eqb}
@@ -75,12 +71,3 @@ module _ (s : Series) (a : Ask) (room : List ℕ) where
 
   pub judged-accepted : refusalOf s a ≡ 0 → accepted s a room ≡ judged s a room (refusalOf s a)
   judged-accepted h = sym (ap (λ (y : Bool). cond y (accepted s a room) (refused (refusalOf s a) s room)) (eq-eqb (refusalOf s a) 0 h))
-
--- what was read, by what unpacking answered
-pub read-none : (u : Option Event) → unpacked u ≡ Nothing → u ≡ none
-read-none none h = refl
-read-none (some e) h = absurd (let z : _≡_ {A = ℕ} 0 1 = cc in omega arith)
-
-pub read-some : (u : Option Event) (e : Event) → unpacked u ≡ Message e → u ≡ some e
-read-some none e h = absurd (let z : _≡_ {A = ℕ} 0 1 = cc in omega arith)
-read-some (some d) e h = ap some (let z : d ≡ e = cc in z)

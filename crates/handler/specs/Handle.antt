@@ -7,7 +7,7 @@ use mathlib.Core.Option.{Option, none, some}
 use lib.Dec.{eqb, ltb}
 use lib.ListN.{length}
 use Rattle.packing.specs.declared.message.Event.{Event}
-use Rattle.packing.specs.Codec.{unpackOf}
+use Rattle.packing.specs.Codec.{nothing, unpackOf}
 use Rattle.packing.specs.Message.{messages, messageAt}
 use Rattle.packing.specs.Room.{written}
 use Rattle.book.specs.Shape.{entriesOf}
@@ -43,7 +43,7 @@ judged s a room why = cond (eqb why 0) (accepted s a room) (refused why s room)
 
 -- "A message that unpacks to no event stops there with refusal 1."
 abbrev pub heard : Series → List ℕ → Option Event → Handled
-heard s room none = refused 1 s room
+heard s room none = refused nothing s room
 heard s room (some e) = judged s (askOf e) room (refusalOf s (askOf e))
 
 -- 10: "report room under 31,920 bytes (2,280 reports of 14)"; 11: "state handed in is unsound"; then the message

@@ -13,7 +13,7 @@ use Rattle.bits.specs.Fields.{total, split, bytes, Bytes, Fit, allFit, equal}
 use Rattle.bits.proofs.FieldLaws.{recode, split-fit, length-split}
 use Rattle.bits.proofs.ByteLaws.{fit-bytes, join-take}
 use Rattle.bits.proofs.TestLaws.{both-left, both-right, equal-true, equal-refl, allFit-true, fit-allFit}
-use Rattle.packing.specs.Codec.{Codec, bit, onlyIf, fieldsIn, bytesOf, checked, thingOf, unpackOf, packs, packOf}
+use Rattle.packing.specs.Codec.{Codec, bit, onlyIf, fieldsIn, bytesOf, checked, thingOf, unpackOf, answerOf, packs, packOf}
 
 -- a side or a flag can be told from its bit
 pub bit-is : (b : Bool) → eqb (bit b) 1 ≡ b
@@ -166,3 +166,9 @@ module _ {E : Type 0} (C : Codec E) (L : Lawful C) where
       by-cases : (u : Option E) → unpackOf C s ≡ u → unpackOf C s ≡ none
       by-cases none k = k
       by-cases (some e) k = absurd (h e (unpack-pack s e b k))
+
+-- AN UNPACKER'S ANSWER, in Rattle's type and by number: where it is right, so are its number and fields
+pub told-both : {E U : Type 0} (C : Codec E) (unpacked : Option E → U) (saidBy : U → ℕ × List ℕ)
+    → ((u : Option E) → saidBy (unpacked u) ≡ answerOf C u)
+    → (u : Option E) (r : U) → r ≡ unpacked u → (r ≡ unpacked u) × (saidBy r ≡ answerOf C u)
+told-both C unpacked saidBy says u r h = (h, ap saidBy h ∙ says u)

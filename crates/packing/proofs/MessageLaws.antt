@@ -1,6 +1,7 @@
 -- Messages: their table is lawful, so that the laws of `CodecLaws` hold of them.
 use Prim.Native.Nat.{ℕ}
 use mathlib.Core.Bool.{Bool}
+use mathlib.Core.List.{List}
 use mathlib.Core.Option.{Option, none, some}
 use mathlib.Core.Path.{_≡_, refl, ap}
 use native.Mathlib.Omega.{arith}
@@ -9,10 +10,11 @@ use borrow.Author.Tests.{ne-eqb}
 use Rattle.packing.specs.declared.message.Terms.{Terms}
 use Rattle.packing.specs.declared.message.Event.{Event}
 use Rattle.packing.specs.declared.message.Event.the-variants.{Plain, Mmlo, Mmalo, Mmrp, Displayed, Dark, CancelEntry, CancelQuote, Away, Underlying, Phase, Enable}
+use Rattle.packing.specs.declared.message.Unpacked.{Unpacked}
 use Rattle.packing.specs.declared.message.Unpacked.the-variants.{Message, Nothing}
-use Rattle.packing.specs.Codec.{bit, lookUp}
-use Rattle.packing.specs.Message.{codeOf, kinds, claimedBy, messages, unpacked}
-use Rattle.packing.proofs.CodecLaws.{Lawful, bit-is}
+use Rattle.packing.specs.Codec.{bit, lookUp, answerOf, unpackOf}
+use Rattle.packing.specs.Message.{codeOf, kinds, claimedBy, messages, unpacked, saidBy}
+use Rattle.packing.proofs.CodecLaws.{Lawful, bit-is, told-both}
 
 -- no other kind is in the table
 pub unknown-kind : (k : ℕ) (t : Terms) (second entry : ℕ)
@@ -66,3 +68,11 @@ was-nothing (some e) h = absurd (let z : _≡_ {A = ℕ} 0 1 = cc in omega arith
 pub was-message : (u : Option Event) (e : Event) → unpacked u ≡ Message e → u ≡ some e
 was-message none e h = absurd (let z : _≡_ {A = ℕ} 0 1 = cc in omega arith)
 was-message (some d) e h = let s : d ≡ e = cc in ap some s
+
+-- a right answer has document 01's number and fields, whichever case it is
+pub told : (s : List ℕ) (r : Unpacked) → r ≡ unpacked (unpackOf messages s) → (r ≡ unpacked (unpackOf messages s)) × (saidBy r ≡ answerOf messages (unpackOf messages s))
+told s = told-both messages unpacked saidBy says (unpackOf messages s)
+  where
+    says : (u : Option Event) → saidBy (unpacked u) ≡ answerOf messages u
+    says none = refl
+    says (some e) = refl

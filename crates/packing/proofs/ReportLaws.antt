@@ -10,11 +10,12 @@ use borrow.Author.Tests.{ne-eqb}
 use Rattle.bits.specs.Fields.{Fit}
 use Rattle.packing.specs.declared.report.Report.{Report}
 use Rattle.packing.specs.declared.report.Report.the-variants.{Noted, Rejected, Traded, Rested, Repriced, Cancelled}
+use Rattle.packing.specs.declared.report.Unpacked.{Unpacked}
 use Rattle.packing.specs.declared.report.Unpacked.the-variants.{Told, Nothing}
 use Rattle.packing.specs.declared.report.Packed.{Packed}
-use Rattle.packing.specs.Codec.{bit, lookUp, packs}
-use Rattle.packing.specs.Report.{row, fieldsOf, codeOf, kinds, kindsOf, claimedBy, reports, unpacked, packed}
-use Rattle.packing.proofs.CodecLaws.{Lawful, bit-is, fit-packs}
+use Rattle.packing.specs.Codec.{bit, lookUp, packs, answerOf, unpackOf}
+use Rattle.packing.specs.Report.{row, fieldsOf, codeOf, kinds, kindsOf, claimedBy, reports, unpacked, packed, saidBy}
+use Rattle.packing.proofs.CodecLaws.{Lawful, bit-is, fit-packs, told-both}
 
 -- what is not of kinds 1 to 3 is looked up among the later kinds, and no kind but 1 to 6 is in the table
 pub later-kind : (k : ℕ) (l : List ℕ) → (k ≡ 1 → ⊥) → (k ≡ 2 → ⊥) → (k ≡ 3 → ⊥) → lookUp k (kindsOf l) ≡ lookUp k (drop 3 (kindsOf l))
@@ -112,3 +113,11 @@ module _ (sell : Bool) (party entry quantity : ℕ) (p : party < 128) (e : entry
   cancelled-packs reason limit r l =
       fit-packs reports (Cancelled reason sell party entry limit quantity)
       (row-fits 6 reason sell party entry 0 limit 0 quantity (omega arith) r p e (omega arith) l (omega arith) q) refl
+
+-- a right answer has document 01's number and fields, whichever case it is
+pub told : (s : List ℕ) (r : Unpacked) → r ≡ unpacked (unpackOf reports s) → (r ≡ unpacked (unpackOf reports s)) × (saidBy r ≡ answerOf reports (unpackOf reports s))
+told s = told-both reports unpacked saidBy says (unpackOf reports s)
+  where
+    says : (u : Option Report) → saidBy (unpacked u) ≡ answerOf reports u
+    says none = refl
+    says (some r) = refl

@@ -1,12 +1,15 @@
 -- Setup: its table is lawful, so that the laws of `CodecLaws` hold of it.
 use Prim.Native.Nat.{ℕ}
+use mathlib.Core.List.{List}
 use mathlib.Core.Option.{Option, none, some}
 use mathlib.Core.Path.{_≡_, refl, ap}
 use native.Mathlib.Omega.{arith}
 use Rattle.packing.specs.declared.setup.Setup.{Setup}
+use Rattle.packing.specs.declared.setup.Unpacked.{Unpacked}
 use Rattle.packing.specs.declared.setup.Unpacked.the-variants.{Series, Nothing}
-use Rattle.packing.specs.Setup.{codeOf, claimedBy, setups, unpacked}
-use Rattle.packing.proofs.CodecLaws.{Lawful, bit-is}
+use Rattle.packing.specs.Codec.{answerOf, unpackOf}
+use Rattle.packing.specs.Setup.{codeOf, claimedBy, setups, unpacked, saidBy}
+use Rattle.packing.proofs.CodecLaws.{Lawful, bit-is, told-both}
 
 code-claimed : (s : Setup) → claimedBy (codeOf s) ≡ some s
 code-claimed s i = some (record { put = bit-is (s .put) i; exempt = bit-is (s .exempt) i; m = s .m; k = s .k; strike = s .strike })
@@ -22,3 +25,11 @@ was-nothing (some s) h = absurd (let z : _≡_ {A = ℕ} 0 1 = cc in omega arith
 pub was-series : (u : Option Setup) (s : Setup) → unpacked u ≡ Series s → u ≡ some s
 was-series none s h = absurd (let z : _≡_ {A = ℕ} 0 1 = cc in omega arith)
 was-series (some t) s h = let e : t ≡ s = cc in ap some e
+
+-- a right answer has document 01's number and fields, whichever case it is
+pub told : (s : List ℕ) (r : Unpacked) → r ≡ unpacked (unpackOf setups s) → (r ≡ unpacked (unpackOf setups s)) × (saidBy r ≡ answerOf setups (unpackOf setups s))
+told s = told-both setups unpacked saidBy says (unpackOf setups s)
+  where
+    says : (u : Option Setup) → saidBy (unpacked u) ≡ answerOf setups u
+    says none = refl
+    says (some s) = refl

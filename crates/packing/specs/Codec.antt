@@ -40,6 +40,10 @@ abbrev pub lookUp : {A : Type 0} → ℕ → List (ℕ × A) → Option A
 lookUp n [] = none
 lookUp n (row ∷ rows) = firstIf (eqb n (row .0)) (row .1) (lookUp n rows)
 
+-- "unpack to none (1)"; a setup "refused (1, no series)"; a message that is none, refusal 1
+abbrev pub nothing : ℕ
+nothing = 1
+
 module _ {E : Type 0} (C : Codec E) where
   -- the fields that bytes hold, and the bytes of fields
   abbrev pub fieldsIn : List ℕ → List ℕ
@@ -59,6 +63,11 @@ module _ {E : Type 0} (C : Codec E) where
   -- WHAT BYTES UNPACK TO. Another length, an unknown number of a case, a nonzero unused bit or field, a value not admitted: nothing
   unfoldable pub unpackOf : List ℕ → Option E
   unpackOf s = onlyIf (eqb (length s) (C .size)) (thingOf (fieldsIn s))
+
+  -- AN ANSWER BY NUMBER: 0 and the fields of what bytes unpack to; or the number of nothing, and no fields
+  abbrev pub answerOf : Option E → ℕ × List ℕ
+  answerOf none = (nothing, [])
+  answerOf (some e) = (0, C .code e)
 
   -- a thing packs if each of its fields fits its width and it is admitted
   unfoldable pub packs : E → Bool

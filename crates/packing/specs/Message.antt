@@ -11,7 +11,7 @@ use Rattle.packing.specs.declared.message.Event.the-variants.{Plain, Mml
 use Rattle.packing.specs.declared.message.Unpacked.{Unpacked}
 use Rattle.packing.specs.declared.message.Unpacked.the-variants.{Message, Nothing}
 use Rattle.packing.specs.declared.message.Packed.{Packed}
-use Rattle.packing.specs.Codec.{Codec, bit, lookUp}
+use Rattle.packing.specs.Codec.{Codec, nothing, bit, lookUp}
 
 -- "A message is 11 bytes: kind 4 bits, party 7, side 1 (0 buy, 1 sell), price 17, quantity 17, second price 17, entry 20, five zero bits."
 abbrev pub widths : List ℕ
@@ -72,6 +72,11 @@ messageAt run at = take 11 (drop at run)
 abbrev pub unpacked : Option Event → Unpacked
 unpacked none = Nothing
 unpacked (some e) = Message e
+
+-- document 01's number and fields for each case of the answer
+abbrev pub saidBy : Unpacked → ℕ × List ℕ
+saidBy Nothing = (nothing, [])
+saidBy (Message e) = (0, codeOf e)
 
 abbrev pub packed : Option (List ℕ) → Packed
 packed none = record { ok = false; bytes = replicate (messages .size) 0 }

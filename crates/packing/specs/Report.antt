@@ -10,7 +10,7 @@ use Rattle.packing.specs.declared.report.Report.the-variants.{Noted, Rej
 use Rattle.packing.specs.declared.report.Unpacked.{Unpacked}
 use Rattle.packing.specs.declared.report.Unpacked.the-variants.{Told, Nothing}
 use Rattle.packing.specs.declared.report.Packed.{Packed}
-use Rattle.packing.specs.Codec.{Codec, bit, lookUp}
+use Rattle.packing.specs.Codec.{Codec, nothing, bit, lookUp}
 
 -- "14 bytes: kind 3 bits, reason 5, side 1, party 7, entry 20, other entry 20, price 17, second 17, quantity 17, five zero bits."
 abbrev pub widths : List ℕ
@@ -66,6 +66,11 @@ reports = record { widths = widths; size = 14; code = codeOf; claimed = claimedB
 abbrev pub unpacked : Option Report → Unpacked
 unpacked none = Nothing
 unpacked (some r) = Told r
+
+-- document 01's number and fields for each case of the answer
+abbrev pub saidBy : Unpacked → ℕ × List ℕ
+saidBy Nothing = (nothing, [])
+saidBy (Told r) = (0, codeOf r)
 
 abbrev pub packed : Option (List ℕ) → Packed
 packed none = record { ok = false; bytes = replicate (reports .size) 0 }

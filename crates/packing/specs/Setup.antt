@@ -9,7 +9,7 @@ use Rattle.packing.specs.declared.setup.Setup.{Setup}
 use Rattle.packing.specs.declared.setup.Unpacked.{Unpacked}
 use Rattle.packing.specs.declared.setup.Unpacked.the-variants.{Series, Nothing}
 use Rattle.packing.specs.declared.setup.Packed.{Packed}
-use Rattle.packing.specs.Codec.{Codec, bit}
+use Rattle.packing.specs.Codec.{Codec, nothing, bit}
 
 -- "Setup is 4 packed bytes, most significant bit first: put 1 bit, exempt 1, M 4, K 7, strike 17, two zero bits."
 abbrev pub widths : List ℕ
@@ -33,6 +33,11 @@ setups = record { widths = widths; size = 4; code = codeOf; claimed = claimedBy;
 abbrev pub unpacked : Option Setup → Unpacked
 unpacked none = Nothing
 unpacked (some s) = Series s
+
+-- document 01's number and fields for each case of the answer
+abbrev pub saidBy : Unpacked → ℕ × List ℕ
+saidBy Nothing = (nothing, [])
+saidBy (Series s) = (0, codeOf s)
 
 abbrev pub packed : Option (List ℕ) → Packed
 packed none = record { ok = false; bytes = replicate (setups .size) 0 }

@@ -2,8 +2,8 @@
 ghost use mathlib.Core.Path.{_≡_};
 ghost use Prim.Native.Nat.{_≤_};
 ghost use lib.ListN.{length, take};
-ghost use Rattle.packing.specs.Codec.{lookUp, fieldsIn, bytesOf, thingOf, unpackOf, packOf};
-ghost use Rattle.packing.specs.Message.{messages, termsCode, codeOf, kinds, claimedBy, messageAt, unpacked, packed};
+ghost use Rattle.packing.specs.Codec.{lookUp, fieldsIn, bytesOf, thingOf, unpackOf, packOf, answerOf};
+ghost use Rattle.packing.specs.Message.{messages, termsCode, codeOf, kinds, claimedBy, messageAt, unpacked, packed, saidBy};
 
 // What a quote or an order says.
 pub struct Terms {
@@ -167,6 +167,7 @@ fn unpack_front(s: &[u8]) -> Unpacked
 
 pub fn unpack(bytes: &[u8]) -> Unpacked
     ensures { λ r. ⌜ r ≡ unpacked (unpackOf messages (now (bytes .entry))) ⌝ }
+    ensures { λ r. ⌜ saidBy r ≡ answerOf messages (unpackOf messages (now (bytes .entry))) ⌝ }
 {
     if bytes.len() == SIZE {
         unpack_front(bytes)
@@ -178,6 +179,7 @@ pub fn unpack(bytes: &[u8]) -> Unpacked
 // The event of the message that stands at a place of a run. The run's part from there on is handed on, and nothing is copied out.
 pub fn unpack_at(run: &[u8], at: usize) -> Unpacked
     ensures { λ r. ⌜ r ≡ unpacked (unpackOf messages (messageAt (now (run .entry)) at)) ⌝ }
+    ensures { λ r. ⌜ saidBy r ≡ answerOf messages (unpackOf messages (messageAt (now (run .entry)) at)) ⌝ }
 {
     if at <= run.len() {
         unpack_front(&run[at..])

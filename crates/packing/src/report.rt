@@ -4,8 +4,8 @@ ghost use Prim.Native.Nat.{_≤_};
 ghost use lib.Dec.{leb};
 ghost use lib.ListN.{length, drop, getD, replicate};
 ghost use mathlib.Core.Bool.{cond};
-ghost use Rattle.packing.specs.Codec.{lookUp, fieldsIn, bytesOf, thingOf, unpackOf, packOf};
-ghost use Rattle.packing.specs.Report.{reports, fieldsOf, codeOf, kindsOf, claimedBy, unpacked, packed};
+ghost use Rattle.packing.specs.Codec.{lookUp, fieldsIn, bytesOf, thingOf, unpackOf, packOf, answerOf};
+ghost use Rattle.packing.specs.Report.{reports, fieldsOf, codeOf, kindsOf, claimedBy, unpacked, packed, saidBy};
 ghost use Rattle.packing.specs.Report.{row as Report·row};
 
 // What happened to an entry: one case for each kind, in the order of the kinds' numbers 1 to 6.
@@ -279,6 +279,7 @@ fn report_of(xs: [u32; 10]) -> Unpacked
 
 pub fn unpack(bytes: &[u8]) -> Unpacked
     ensures { λ r. ⌜ r ≡ unpacked (unpackOf reports (now (bytes .entry))) ⌝ }
+    ensures { λ r. ⌜ saidBy r ≡ answerOf reports (unpackOf reports (now (bytes .entry))) ⌝ }
 {
     if bytes.len() == SIZE {
         let xs = read(bytes);

@@ -2,8 +2,8 @@
 ghost use mathlib.Core.Path.{_≡_};
 ghost use Prim.Native.Nat.{_≤_};
 ghost use lib.ListN.{length};
-ghost use Rattle.packing.specs.Codec.{fieldsIn, bytesOf, thingOf, unpackOf, packOf};
-ghost use Rattle.packing.specs.Setup.{setups, codeOf, legal, unpacked, packed};
+ghost use Rattle.packing.specs.Codec.{fieldsIn, bytesOf, thingOf, unpackOf, packOf, answerOf};
+ghost use Rattle.packing.specs.Setup.{setups, codeOf, legal, unpacked, packed, saidBy};
 
 pub struct Setup {
     pub put: bool,
@@ -88,6 +88,7 @@ fn setup_of(xs: [u32; 6]) -> Unpacked
 
 pub fn unpack(bytes: &[u8]) -> Unpacked
     ensures { λ r. ⌜ r ≡ unpacked (unpackOf setups (now (bytes .entry))) ⌝ }
+    ensures { λ r. ⌜ saidBy r ≡ answerOf setups (unpackOf setups (now (bytes .entry))) ⌝ }
 {
     if bytes.len() == SIZE {
         let xs = read(bytes);

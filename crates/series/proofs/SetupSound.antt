@@ -69,10 +69,10 @@ pub none-unsound : soundSeries noSeries ≡ false
 unfolding soundSeries soundTerms mpv
 none-unsound = refl
 
--- so the answer to a setup is ok exactly where its series is sound
-pub opened-sound : (bytes : List ℕ) → opened (unpackOf setups bytes) .ok ≡ soundSeries (opened (unpackOf setups bytes) .series)
+-- so a setup is not refused exactly where its series is sound
+pub opened-sound : (bytes : List ℕ) → eqb (opened (unpackOf setups bytes) .refusal) 0 ≡ soundSeries (opened (unpackOf setups bytes) .series)
 opened-sound bytes = go (unpackOf setups bytes) refl
   where
-    go : (u : Option Setup) → unpackOf setups bytes ≡ u → opened u .ok ≡ soundSeries (opened u .series)
+    go : (u : Option Setup) → unpackOf setups bytes ≡ u → eqb (opened u .refusal) 0 ≡ soundSeries (opened u .series)
     go none k = sym none-unsound
     go (some x) k = sym (setup-sound bytes x k)

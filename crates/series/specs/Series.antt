@@ -8,6 +8,7 @@ use lib.Dec.{eqb, leb}
 use lib.ListN.{length, replicate}
 use Rattle.prices.specs.Step.{mpv, given}
 use Rattle.lists.specs.Tests.{any}
+use Rattle.packing.specs.Codec.{nothing}
 use Rattle.packing.specs.declared.setup.Setup.{Setup}
 use Rattle.book.specs.declared.Entry.{Entry}
 use Rattle.book.specs.Entries.{quote}
@@ -40,9 +41,10 @@ newSeries s = record {
 abbrev pub noSeries : Series
 noSeries = newSeries (record { put = false; exempt = false; m = 0; k = 0; strike = 0 })
 
+-- "Setup of other length or values is refused (1, no series)."
 abbrev pub opened : Option Setup → Made
-opened none = record { ok = false; series = noSeries }
-opened (some s) = record { ok = true; series = newSeries s }
+opened none = record { refusal = nothing; series = noSeries }
+opened (some s) = record { refusal = 0; series = newSeries s }
 
 -- ---- soundness ----
 

@@ -12,8 +12,8 @@ pub struct Series {
     pub book: Book,
 }
 
-// A series, or none: an enum cannot hold one, since it holds an array.
+// A series and refusal 0, or refusal 1 and none: an enum cannot hold a series, since that holds an array.
 pub struct Made {
-    pub ok: bool,
+    pub refusal: u32,
     pub series: Series,
 }

@@ -61,8 +61,8 @@ pub fn open_series(setup: &[u8]) -> Made
     let u = unpack(setup);
     let Unpacked::Series(s) = u else {
         let series = no_series();
-        return Made { ok: false, series };
+        return Made { refusal: 1, series };
     };
     let series = new_series(s);
-    Made { ok: true, series }
+    Made { refusal: 0, series }
 }

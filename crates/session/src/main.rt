@@ -103,8 +103,8 @@ fn main() {
     let mut setup = [0u8; 4];
     let n = io::read_full(STDIN_FILENO, &mut setup);
     let made = open_series(&setup[..n]);
-    if !made.ok {
-        print_refusal(0, 1);
+    if made.refusal != 0 {
+        print_refusal(0, made.refusal);
         return;
     }
     let series = made.series;

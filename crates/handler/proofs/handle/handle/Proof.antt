@@ -5,7 +5,7 @@ use Rattle.handler.proofs.Ways.{handled-short, handled-unsound, handled
 use Rattle.handler.specs.declared.Answer.{Answer}
 use Rattle.handler.specs.Handle.{answered}
 use Rattle.packing.specs.Message.{messageAt}
-use Rattle.handler.proofs.AcceptLaws.{read-none, read-some}
+use Rattle.packing.proofs.MessageLaws.{was-nothing, was-message}
 use borrow.Author.Needs.{needs}
 use Rattle.handler.proofs.handle.handle.Statement.{statement}
 use Rattle.handler.proofs.handle.handle.Tie as tie
@@ -38,7 +38,7 @@ refused-requires-3 : tie.Need-refused-requires-3
 refused-requires-3 c κs = search needs
 
 returns-3 : tie.Need-returns-3
-returns-3 c = ap (λ (x : Answer). answered x (c .before .before .before .before .before .before .before .before .before .before .args .room .now)) (c .refused3 .ensures) ∙ sym (handled-nothing (c .before .before .before .before .before .before .before .before .before .before .args .series) (c .before .before .before .before .before .before .before .before .before .before .args .message .now) (c .before .before .before .before .before .before .before .before .before .before .args .room .now) (c .before .before .before .before .before .before .before .if1 .left) (sym (c .before .before .before .before .before .before .check-series .ensures .verdict) ∙ not-false _ (c .before .before .before .before .if2 .left)) (read-none _ (sym (c .before .before .before .unpack .ensures) ∙ c .before .enum-told .given .1)))
+returns-3 c = ap (λ (x : Answer). answered x (c .before .before .before .before .before .before .before .before .before .before .args .room .now)) (c .refused3 .ensures) ∙ sym (handled-nothing (c .before .before .before .before .before .before .before .before .before .before .args .series) (c .before .before .before .before .before .before .before .before .before .before .args .message .now) (c .before .before .before .before .before .before .before .before .before .before .args .room .now) (c .before .before .before .before .before .before .before .if1 .left) (sym (c .before .before .before .before .before .before .check-series .ensures .verdict) ∙ not-false _ (c .before .before .before .before .if2 .left)) (was-nothing _ (sym (c .before .before .before .unpack .ensures .0) ∙ c .before .enum-told .given .1)))
 
 answer-event-requires : tie.Need-answer-event-requires
 answer-event-requires c κs = (record { sound = (sym (c .before .before .before .before .before .before .before .check-series .ensures .verdict) ∙ not-false _ (c .before .before .before .before .before .if2 .left)); well = c .before .before .before .before .before .before .before .check-series .ensures .checked (not-false _ (c .before .before .before .before .before .if2 .left)) .well (not-false _ (c .before .before .before .before .before .if2 .left)); blocks = search needs }, c .before .before .before .before .before .before .before .before .if1 .left)
@@ -47,7 +47,7 @@ same-length : tie.Need-same-length
 same-length c = search needs
 
 returns-4 : tie.Need-returns-4
-returns-4 c = c .before .before .answer-event .ensures ∙ sym (handled-judged (c .before .before .before .before .before .before .before .before .before .before .before .before .before .before .args .series) (c .before .before .before .before .before .before .before .before .before .before .before .before .before .before .args .message .now) (c .before .before .before .before .before .before .before .before .before .before .before .before .before .before .args .room .now) (c .before .before .before .before .before .before .before .before .before .before .before .if1 .left) (sym (c .before .before .before .before .before .before .before .before .before .before .check-series .ensures .verdict) ∙ not-false _ (c .before .before .before .before .before .before .before .before .if2 .left)) (c .before .before .before .before .before .event .given .0 .0) (read-some _ _ (sym (c .before .before .before .before .before .before .before .unpack .ensures) ∙ c .before .before .before .before .before .event .given .1)))
+returns-4 c = c .before .before .answer-event .ensures ∙ sym (handled-judged (c .before .before .before .before .before .before .before .before .before .before .before .before .before .before .args .series) (c .before .before .before .before .before .before .before .before .before .before .before .before .before .before .args .message .now) (c .before .before .before .before .before .before .before .before .before .before .before .before .before .before .args .room .now) (c .before .before .before .before .before .before .before .before .before .before .before .if1 .left) (sym (c .before .before .before .before .before .before .before .before .before .before .check-series .ensures .verdict) ∙ not-false _ (c .before .before .before .before .before .before .before .before .if2 .left)) (c .before .before .before .before .before .event .given .0 .0) (was-message _ _ (sym (c .before .before .before .before .before .before .before .unpack .ensures .0) ∙ c .before .before .before .before .before .event .given .1)))
 
 pub handle-spec : {M : Type 1} → statement M
 handle-spec =

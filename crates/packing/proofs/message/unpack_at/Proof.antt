@@ -6,8 +6,9 @@ use lib.ListN.{length, take, drop, length-drop}
 use lib.Seq.{take-all}
 use denote.Ref.{now}
 use Rattle.packing.specs.Codec.{unpackOf}
-use Rattle.packing.specs.Message.{messages, unpacked}
+use Rattle.packing.specs.Message.{messages, messageAt, unpacked}
 use Rattle.packing.proofs.CodecLaws.{unpack-short}
+use Rattle.packing.proofs.MessageLaws.{told}
 use borrow.Author.Needs.{needs}
 use Rattle.packing.proofs.message.unpack_at.Statement.{statement}
 use Rattle.packing.proofs.message.unpack_at.Tie as tie
@@ -28,13 +29,14 @@ returns : tie.Need-returns
 returns c =
     let a = c .before .before .before .before .args in
     let s : List ℕ = now (a .run) in
-    c .unpack-front .ensures
-    ∙ ap (λ (l : List ℕ). unpacked (unpackOf messages (take (messages .size) l))) (take-all (length s - a .at) (drop (a .at) s) (rw length-drop (omega arith)))
+    told (messageAt s (a .at)) _
+    (c .unpack-front .ensures
+    ∙ ap (λ (l : List ℕ). unpacked (unpackOf messages (take (messages .size) l))) (take-all (length s - a .at) (drop (a .at) s) (rw length-drop (omega arith))))
 
 returns-2 : tie.Need-returns-2
 returns-2 c =
     let a = c .before .before .args in
-    ap unpacked (sym (unpack-short messages (drop (a .at) (now (a .run))) (rw length-drop (omega arith))))
+    told (messageAt (now (a .run)) (a .at)) _ (ap unpacked (sym (unpack-short messages (drop (a .at) (now (a .run))) (rw length-drop (omega arith)))))
 
 pub unpack-at-spec : {M : Type 1} → statement M
 unpack-at-spec =

@@ -8,6 +8,7 @@ use denote.Ref.{now}
 use Rattle.packing.specs.Codec.{unpackOf}
 use Rattle.packing.specs.Setup.{setups, unpacked}
 use Rattle.packing.proofs.CodecLaws.{unpack-long, unpack-other}
+use Rattle.packing.proofs.SetupLaws.{told}
 use borrow.Author.Needs.{needs}
 use Rattle.packing.proofs.setup.unpack.Statement.{statement}
 use Rattle.packing.proofs.setup.unpack.Tie as tie
@@ -22,11 +23,12 @@ returns : tie.Need-returns
 returns c =
     let s : List ℕ = now (c .before .before .before .before .args .bytes) in
     let e : take (setups .size) s ≡ s = take-all (setups .size) s (omega arith) in
-    c .setup-of .ensures
-    ∙ ap unpacked (sym (unpack-long setups s _ (omega arith) (c .before .read .ensures)) ∙ ap (unpackOf setups) e)
+    told s _
+    (c .setup-of .ensures
+    ∙ ap unpacked (sym (unpack-long setups s _ (omega arith) (c .before .read .ensures)) ∙ ap (unpackOf setups) e))
 
 returns-2 : tie.Need-returns-2
-returns-2 c = ap unpacked (sym (unpack-other setups _ (c .if1 .left)))
+returns-2 c = let s : List ℕ = now (c .before .before .args .bytes) in told s _ (ap unpacked (sym (unpack-other setups s (c .if1 .left))))
 
 pub unpack-spec : {M : Type 1} → statement M
 unpack-spec = tie.close (tie.spec read-requires setup-of-requires returns returns-2)

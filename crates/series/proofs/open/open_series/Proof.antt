@@ -19,13 +19,13 @@ no-series-requires : tie.Need-no-series-requires
 no-series-requires c κs = search needs
 
 returns : tie.Need-returns
-returns c = let s = c .before .before .before .before .before .args .setup .now in rw (c .no-series .ensures, was-nothing (unpackOf setups s) (sym (c .before .before .before .unpack .ensures) ∙ c .before .enum-told .given .1)) refl
+returns c = let s = c .before .before .before .before .before .args .setup .now in rw (c .no-series .ensures, was-nothing (unpackOf setups s) (sym (c .before .before .before .unpack .ensures .0) ∙ c .before .enum-told .given .1)) refl
 
 new-series-requires : tie.Need-new-series-requires
 new-series-requires c κs = search needs
 
 returns-2 : tie.Need-returns-2
-returns-2 c = let s = c .before .before .before .before .before .before .args .setup .now in rw (c .new-series .ensures, was-series (unpackOf setups s) (c .before .before .u .given .0 .0) (sym (c .before .before .before .before .unpack .ensures) ∙ c .before .before .u .given .1)) refl
+returns-2 c = let s = c .before .before .before .before .before .before .args .setup .now in rw (c .new-series .ensures, was-series (unpackOf setups s) (c .before .before .u .given .0 .0) (sym (c .before .before .before .before .unpack .ensures .0) ∙ c .before .before .u .given .1)) refl
 
 pub open-series-spec : {M : Type 1} → statement M
 open-series-spec =
