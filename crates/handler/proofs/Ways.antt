@@ -1,35 +1,27 @@
 -- The ways out of the handler: under which tests `handled` is which answer. Each is cited where the code returns.
 -- Assumes nothing.
 use Prim.Native.Nat.{ℕ, _≤_, _<_}
-use mathlib.Core.Path.{_≡_, refl, ap, _∙_}
-use mathlib.Core.Bool.{Bool, true, false, cond}
+use mathlib.Core.Path.{_≡_, refl, sym, ap, _∙_}
+use mathlib.Core.Bool.{Bool, true, false, cond, not}
 use mathlib.Core.List.{List}
 use mathlib.Core.Option.{Option, none, some}
 use native.Mathlib.Omega.{arith}
 use lib.Dec.{eqb, ltb}
 use lib.ListN.{length}
-use borrow.Author.Tests.{lt-ltb, le-ltb, ltb-false, eq-eqb, ne-eqb, eqb-true, eqb-false}
+use borrow.Author.Tests.{le-ltb, ltb-false, eq-eqb, ne-eqb, eqb-true, eqb-false}
 use Rattle.packing.specs.declared.message.Event.{Event}
 use Rattle.packing.specs.Codec.{unpackOf}
 use Rattle.packing.specs.Message.{messages}
 use Rattle.series.specs.declared.Series.{Series}
 use Rattle.series.specs.Series.{soundSeries}
+use Rattle.handler.specs.declared.Answer.{Answer}
 use Rattle.handler.specs.Asked.{askOf}
 use Rattle.handler.specs.Refuse.{refusalOf}
-use Rattle.handler.specs.Handle.{refused, accepted, judged, heard, handled}
+use Rattle.handler.specs.Acts.{Admits}
+use Rattle.handler.specs.Handle.{firstOf, beforeReading, answered, refused, accepted, judged, heard, handled}
 
 module _ (s : Series) (message room : List ℕ) where
-  -- 10: "report room under 31,920 bytes (2,280 reports of 14)"
-  pub handled-short : length room < 31920 → handled s message room ≡ refused 10 s room
-  unfolding handled
-  handled-short h = rw (lt-ltb (length room) 31920 h)
-
   module _ (space : 31920 ≤ length room) where
-    -- 11: "state handed in is unsound"
-    pub handled-unsound : soundSeries s ≡ false → handled s message room ≡ refused 11 s room
-    unfolding handled
-    handled-unsound h = rw (le-ltb (length room) 31920 space, h)
-
     module _ (sound : soundSeries s ≡ true) where
       pub handled-heard : handled s message room ≡ heard s room (unpackOf messages message)
       unfolding handled
@@ -53,6 +45,48 @@ module _ (s : Series) (message room : List ℕ) where
         handled-accepted h =
             handled-judged
             ∙ ap (λ (b : Bool). cond b (accepted s (askOf e) room) (refused (refusalOf s (askOf e)) s room)) (eq-eqb (refusalOf s (askOf e)) 0 h)
+
+-- what is refused before the message is read, and what is known where nothing is
+pub refused-early : (s : Series) (message room : List ℕ) → (beforeReading (length room) (soundSeries s) ≡ 0 → ⊥)
+    → handled s message room ≡ refused (beforeReading (length room) (soundSeries s)) s room
+unfolding handled
+refused-early s message room h = by (ltb (length room) 31920) (soundSeries s) h
+  where
+    by : (b c : Bool) → (firstOf b 10 (not c) 11 ≡ 0 → ⊥)
+        → cond b (refused 10 s room) (cond c (heard s room (unpackOf messages message)) (refused 11 s room)) ≡ refused (firstOf b 10 (not c) 11) s room
+    by true c k = refl
+    by false false k = refl
+    by false true k = absurd (k refl)
+
+pub none-early : (space : ℕ) (sound : Bool) → beforeReading space sound ≡ 0 → (31920 ≤ space) × (sound ≡ true)
+none-early space sound h = by (ltb space 31920) refl sound refl h
+  where
+    by : (b : Bool) → ltb space 31920 ≡ b → (c : Bool) → sound ≡ c → firstOf b 10 (not c) 11 ≡ 0 → (31920 ≤ space) × (c ≡ true)
+    by true p c q k = absurd (let z : _≡_ {A = ℕ} 10 0 = k in omega arith)
+    by false p false q k = absurd (let z : _≡_ {A = ℕ} 11 0 = k in omega arith)
+    by false p true q k = (ltb-false space 31920 p, refl)
+
+-- what the code returns, once 10 and 11 are tested
+module _ (s : Series) (message room : List ℕ) (why : ℕ) (admits : Admits s (length room) why) where
+  pub returns-early : (why ≡ 0 → ⊥) → (r : Answer) → r ≡ record { refusal = why; count = 0; series = s } → answered r room ≡ handled s message room
+  returns-early h r q =
+      let n : why ≡ beforeReading (length room) (soundSeries s) = admits .number in
+      ap (λ (z : Answer). answered z room) q ∙ ap (λ (k : ℕ). refused k s room) n
+      ∙ sym (refused-early s message room (λ z. h (n ∙ z)))
+
+  module _ (h : why ≡ 0) where
+    roomy-sound : (31920 ≤ length room) × (soundSeries s ≡ true)
+    roomy-sound = none-early (length room) (soundSeries s) (sym (admits .number) ∙ h)
+
+    pub admits-space : 31920 ≤ length room
+    admits-space = roomy-sound .0
+
+    pub returns-unread : unpackOf messages message ≡ none → (r : Answer) → r ≡ record { refusal = 1; count = 0; series = s }
+        → answered r room ≡ handled s message room
+    returns-unread u r q = ap (λ (z : Answer). answered z room) q ∙ sym (handled-nothing s message room (roomy-sound .0) (roomy-sound .1) u)
+
+    pub returns-judged : (e : Event) → unpackOf messages message ≡ some e → judged s (askOf e) room (refusalOf s (askOf e)) ≡ handled s message room
+    returns-judged e u = sym (handled-judged s message room (roomy-sound .0) (roomy-sound .1) e u)
 
 -- ---- the other way round ----
 

@@ -17,12 +17,18 @@ use Rattle.handler.specs.declared.Ask.{Ask}
 use Rattle.handler.specs.Asked.{quotes}
 use Rattle.handler.specs.Refuse.{badParty, refusalOf}
 use Rattle.handler.specs.Accept.{settledIf}
+use Rattle.handler.specs.Handle.{beforeReading}
 
 -- a sound series, with its arrays of 64 and 16 places
 pub record Whole (s : Series) : Type 0 where
   pub sound : soundSeries s ≡ true
   pub well : WellFormed (s .book)
   pub blocks : length (s .blocked) ≡ 16
+
+-- what is known once 10 and 11 are tested
+pub record Admits (s : Series) (space why : ℕ) : Type 0 where
+  pub number : why ≡ beforeReading space (soundSeries s)
+  pub whole : why ≡ 0 → Whole s
 
 -- and an event that no test refuses
 pub record Acts (s : Series) (a : Ask) : Type 0 where

@@ -1,7 +1,7 @@
 -- THE HANDLER: the answer, and every byte of the lent room, for every series, message and room.
 -- Assumes nothing.
 use Prim.Native.Nat.{ℕ}
-use mathlib.Core.Bool.{Bool, true, false, cond}
+use mathlib.Core.Bool.{Bool, true, false, cond, not}
 use mathlib.Core.List.{List}
 use mathlib.Core.Option.{Option, none, some}
 use lib.Dec.{eqb, ltb}
@@ -46,7 +46,15 @@ abbrev pub heard : Series → List ℕ → Option Event → Handled
 heard s room none = refused nothing s room
 heard s room (some e) = judged s (askOf e) room (refusalOf s (askOf e))
 
--- 10: "report room under 31,920 bytes (2,280 reports of 14)"; 11: "state handed in is unsound"; then the message
+-- the first of two refusals whose test holds; 0, if neither does
+abbrev pub firstOf : Bool → ℕ → Bool → ℕ → ℕ
+firstOf one number other next = cond one number (cond other next 0)
+
+-- 10: "report room under 31,920 bytes (2,280 reports of 14)"; 11: "state handed in is unsound"
+abbrev pub beforeReading : ℕ → Bool → ℕ
+beforeReading space sound = firstOf (ltb space 31920) 10 (not sound) 11
+
+-- then the message
 unfoldable pub handled : Series → List ℕ → List ℕ → Handled
 handled s message room =
     cond (ltb (length room) 31920) (refused 10 s room)

@@ -35,16 +35,17 @@ ghost use Rattle.arrival.specs.Arrive.{told, blocks};
 ghost use Rattle.handler.specs.Asked.{askOf, quotes};
 ghost use Rattle.handler.specs.Refuse.{refusalOf};
 ghost use Rattle.handler.specs.Accept.{comer, own, termsAfter, settledIf};
-ghost use Rattle.handler.specs.Acts.{Whole, Acts, SettlesIf, blockedBy, Marks};
-ghost use Rattle.handler.specs.Handle.{answered, accepted, judged, handled, handledAt};
+ghost use Rattle.handler.specs.Acts.{Whole, Admits, Acts, SettlesIf, blockedBy, Marks};
+ghost use Rattle.handler.specs.Handle.{firstOf, answered, accepted, judged, handled, handledAt};
 
 fn refused(series: Series, why: u32) -> Answer
     ensures { λ r. ⌜ r ≡ record { refusal = why; count = 0; series = series } ⌝ }
 {
+    let kept = series;
     Answer {
         refusal: why,
         count: 0,
-        series,
+        series: kept,
     }
 }
 
@@ -202,16 +203,34 @@ fn answer_event(series: Series, event: Event, room: &mut [u8]) -> Answer
     accept(series, a, room)
 }
 
+// The first of two refusals whose test holds.
+fn first_of(one: bool, number: u32, other: bool, next: u32) -> u32
+    ensures { λ r. ⌜ r ≡ firstOf one number other next ⌝ }
+{
+    if one {
+        return number;
+    }
+    if other {
+        return next;
+    }
+    0
+}
+
+// The refusals that come before the message is read, by how many bytes of room there are.
+fn before_reading(series: Series, space: usize) -> u32
+    ensures { λ r. ⌜ Admits series space r ⌝ }
+{
+    let check = check_series(series);
+    first_of(space < 31920, 10, !check.ok, 11)
+}
+
 // Every series, message and room has its answer.
 pub fn handle(series: Series, message: &[u8], room: &mut [u8]) -> Answer
     ensures { λ r. ⌜ answered r (now (room .exit)) ≡ handled series (now (message .entry)) (now (room .entry)) ⌝ }
 {
-    if room.len() < 31920 {
-        return refused(series, 10);
-    }
-    let check = check_series(series);
-    if !check.ok {
-        return refused(series, 11);
+    let why = before_reading(series, room.len());
+    if why != 0 {
+        return refused(series, why);
     }
     let Unpacked::Message(event) = unpack(message) else {
         return refused(series, 1);
@@ -223,12 +242,9 @@ pub fn handle(series: Series, message: &[u8], room: &mut [u8]) -> Answer
 pub fn handle_at(series: Series, run: &[u8], at: usize, room: &mut [u8]) -> Answer
     ensures { λ r. ⌜ answered r (now (room .exit)) ≡ handledAt series (now (run .entry)) at (now (room .entry)) ⌝ }
 {
-    if room.len() < 31920 {
-        return refused(series, 10);
-    }
-    let check = check_series(series);
-    if !check.ok {
-        return refused(series, 11);
+    let why = before_reading(series, room.len());
+    if why != 0 {
+        return refused(series, why);
     }
     let Unpacked::Message(event) = unpack_at(run, at) else {
         return refused(series, 1);
