@@ -4,7 +4,7 @@ use Prim.Native.Nat.{ℕ, _≤_, _<_}
 use mathlib.Core.Path.{_≡_, refl, ap, _∙_}
 use mathlib.Core.Bool.{Bool, true, false, cond, not, _&&_, _||_}
 use native.Mathlib.Omega.{arith}
-use borrow.Author.Tests.{leb-true, eqb-true}
+use borrow.Author.Tests.{leb-true, le-leb, eqb-true}
 use lib.Dec.{eqb, leb}
 use Rattle.prices.specs.Step.{mpv, legal}
 use Rattle.prices.specs.Side.{reaches}
@@ -51,6 +51,9 @@ of-clauses m given e c =
 -- from low to high
 pub between-both : (low high x : ℕ) → between low high x ≡ true → (low ≤ x) × (x ≤ high)
 between-both low high x h = (leb-true low x (and-left (leb low x) (leb x high) h), leb-true x high (and-right (leb low x) (leb x high) h))
+
+pub both-between : (low high x : ℕ) → (low ≤ x) × (x ≤ high) → between low high x ≡ true
+both-between low high x h = and-both (leb low x) (leb x high) (le-leb low x (h .0)) (le-leb x high (h .1))
 
 -- the party of a quote is a maker
 pub maker : (m given : ℕ) (e : Entry) → Clauses m given e → quote e ≡ true → (1 ≤ e .party) × (e .party ≤ 16)

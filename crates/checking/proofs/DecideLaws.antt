@@ -24,15 +24,15 @@ use Rattle.book.specs.declared.Pricing.{Pricing}
 use Rattle.book.specs.declared.Pricing.the-variants.{Fixed, Dark, Sliding}
 use Rattle.book.specs.Entries.{quote}
 use Rattle.sound.specs.Sound.{between, pricedAs, soundEntry, distinct, oneQuote, uncrossed, uncrossedAs, soundPair}
-use Rattle.checking.specs.SoundBook.{LegalPrice, SoundSlide, AtLimit, Slider, SoundEntry, SoundTwo}
-use Rattle.checking.proofs.ClauseLaws.{clauses-of, of-clauses, between-both}
+use Rattle.checking.specs.SoundBook.{LegalPrice, SoundSlide, AtLimit, Slider, Numbered, LegalFigures, SoundPrices, Distinct, OneQuote, Uncrossed}
+use Rattle.checking.proofs.ClauseLaws.{clauses-of, of-clauses, between-both, both-between}
 
 -- ---- prices ----
 
-legal-price : (m p : ℕ) → legal m p ≡ true → LegalPrice m p
+pub legal-price : (m p : ℕ) → legal m p ≡ true → LegalPrice m p
 legal-price m p h = let a = is-legal m p h in record { from = a .low; to = a .high; multiple = a .grid }
 
-price-legal : (m p : ℕ) → LegalPrice m p → legal m p ≡ true
+pub price-legal : (m p : ℕ) → LegalPrice m p → legal m p ≡ true
 price-legal m p a = legal-is (record { low = a .from; high = a .to; grid = a .multiple })
 
 module _ (m l d w : ℕ) where
@@ -148,20 +148,30 @@ module _ (m kind : ℕ) (s : Bool) (limit w : ℕ) where
   unfolding pricedAs
   slide-priced d k f = and-both (sliding kind) (slides m s limit d w) (slider-is kind k) (facts-slide m limit d w s f)
 
+-- all that is asked of one entry
+pub record SoundEntry (m given : ℕ) (e : Entry) : Type 0 where
+  pub number : Numbered given e
+  pub figures : LegalFigures m e
+  pub prices : SoundPrices m e
+
 pub entry-facts : (m given : ℕ) (e : Entry) → soundEntry m given e ≡ true → SoundEntry m given e
 entry-facts m given e h =
     let c = clauses-of m given e h in
     record {
-      kind = between-both 1 6 (e .kind) (c .kind);
       number = between-both 1 given (e .number) (c .number);
-      limit = legal-price m (e .limit) (and-left (legal m (e .limit)) (between 1 99999 (e .quantity)) (c .size));
-      quantity = between-both 1 99999 (e .quantity) (and-right (legal m (e .limit)) (between 1 99999 (e .quantity)) (c .size));
-      party = between-both 1 99 (e .party) (and-left (between 1 99 (e .party)) (not (quote e) || leb (e .party) 16) (c .party));
-      maker = λ q. leb-true (e .party) 16 (quoted (quote e) (le-leb (e .kind) 4 q)
-          (and-right (between 1 99 (e .party)) (not (quote e) || leb (e .party) 16) (c .party)));
-      plain = at-limit m (e .kind) (e .sell) (e .limit) (e .working) (e .pricing) (c .price);
-      dark = in-the-dark m (e .kind) (e .sell) (e .limit) (e .working) (e .pricing) (c .price);
-      slides = on-the-slide m (e .kind) (e .sell) (e .limit) (e .working) (e .pricing) (c .price);
+      figures = record {
+        limit = legal-price m (e .limit) (and-left (legal m (e .limit)) (between 1 99999 (e .quantity)) (c .size));
+        quantity = between-both 1 99999 (e .quantity) (and-right (legal m (e .limit)) (between 1 99999 (e .quantity)) (c .size));
+        party = between-both 1 99 (e .party) (and-left (between 1 99 (e .party)) (not (quote e) || leb (e .party) 16) (c .party));
+        maker = λ q. leb-true (e .party) 16 (quoted (quote e) (le-leb (e .kind) 4 q)
+            (and-right (between 1 99 (e .party)) (not (quote e) || leb (e .party) 16) (c .party)));
+      };
+      prices = record {
+        kind = between-both 1 6 (e .kind) (c .kind);
+        plain = at-limit m (e .kind) (e .sell) (e .limit) (e .working) (e .pricing) (c .price);
+        dark = in-the-dark m (e .kind) (e .sell) (e .limit) (e .working) (e .pricing) (c .price);
+        slides = on-the-slide m (e .kind) (e .sell) (e .limit) (e .working) (e .pricing) (c .price);
+      };
     }
   where
     quoted : (q : Bool) → q ≡ true → (not q || leb (e .party) 16) ≡ true → leb (e .party) 16 ≡ true
@@ -169,28 +179,31 @@ entry-facts m given e h =
 
 pub facts-entry : (m given : ℕ) (e : Entry) → SoundEntry m given e → soundEntry m given e ≡ true
 facts-entry m given e f = of-clauses m given e (record {
-  number = from-to 1 given (e .number) (f .number);
-  kind = from-to 1 6 (e .kind) (f .kind);
-  party = and-both (between 1 99 (e .party)) (not (quote e) || leb (e .party) 16) (from-to 1 99 (e .party) (f .party)) (quoted (quote e) refl);
-  size = and-both (legal m (e .limit)) (between 1 99999 (e .quantity)) (price-legal m (e .limit) (f .limit)) (from-to 1 99999 (e .quantity) (f .quantity));
-  price = by (sorts (e .kind) (f .kind .0) (f .kind .1));
+  number = both-between 1 given (e .number) (f .number);
+  kind = both-between 1 6 (e .kind) (f .prices .kind);
+  party = and-both (between 1 99 (e .party)) (not (quote e) || leb (e .party) 16) (both-between 1 99 (e .party) (f .figures .party)) (quoted (quote e) refl);
+  size = and-both (legal m (e .limit)) (between 1 99999 (e .quantity)) (price-legal m (e .limit) (f .figures .limit)) (both-between 1 99999 (e .quantity) (f .figures .quantity));
+  price = by (sorts (e .kind) (f .prices .kind .0) (f .prices .kind .1));
 })
   where
-    from-to : (low high x : ℕ) → (low ≤ x) × (x ≤ high) → between low high x ≡ true
-    from-to low high x h = and-both (leb low x) (leb x high) (le-leb low x (h .0)) (le-leb x high (h .1))
-
     quoted : (q : Bool) → quote e ≡ q → (not q || leb (e .party) 16) ≡ true
     quoted false k = refl
-    quoted true k = le-leb (e .party) 16 (f .maker (leb-true (e .kind) 4 k))
+    quoted true k = le-leb (e .party) 16 (f .figures .maker (leb-true (e .kind) 4 k))
 
     by : AtLimit (e .kind) ⊎ (Slider (e .kind) ⊎ (e .kind ≡ 6)) → pricedAs m (e .kind) (e .sell) (e .limit) (e .working) (e .pricing) ≡ true
-    by (inl k) = rw (f .plain k .0) (limit-priced m (e .kind) (e .sell) (e .limit) (e .working) k (f .plain k .1))
+    by (inl k) = rw (f .prices .plain k .0) (limit-priced m (e .kind) (e .sell) (e .limit) (e .working) k (f .prices .plain k .1))
     by (inr (inl k)) =
-        let z = f .slides k in
+        let z = f .prices .slides k in
         rw (z .1 .0) (slide-priced m (e .kind) (e .sell) (e .limit) (e .working) (z .0) k (z .1 .1))
-    by (inr (inr k)) = rw (f .dark k .0) (dark-priced m (e .kind) (e .sell) (e .limit) (e .working) k (f .dark k .1))
+    by (inr (inr k)) = rw (f .prices .dark k .0) (dark-priced m (e .kind) (e .sell) (e .limit) (e .working) k (f .prices .dark k .1))
 
 -- ---- two entries, in either order ----
+
+-- all that is asked of two
+pub record SoundTwo (x y : Entry) : Type 0 where
+  pub numbers : Distinct x y
+  pub quotes : OneQuote x y
+  pub uncrossed : Uncrossed x y
 
 beq-is : (s t : Bool) → s ≡ t → Bool·beq s t ≡ true
 beq-is s t e = rw e (same t)

@@ -14,9 +14,9 @@ use Rattle.book.specs.declared.Entry.{Entry}
 use Rattle.book.specs.declared.Book.{Book}
 use Rattle.book.specs.Shape.{zeroEntry, entriesOf}
 use Rattle.sound.specs.Sound.{soundEntry, soundPair, soundEntries, unusedEntry, soundBook}
-use Rattle.checking.specs.SoundBook.{SoundBook}
+use Rattle.checking.specs.SoundBook.{Each, EachTwo, SoundBook}
 use Rattle.checking.proofs.BookLaws.{unused-zero}
-use Rattle.checking.proofs.DecideLaws.{entry-facts, facts-entry, facts-two, two-at, test-at, at-test, at-pairs, behind, before}
+use Rattle.checking.proofs.DecideLaws.{SoundEntry, SoundTwo, entry-facts, facts-entry, facts-two, two-at, test-at, at-test, at-pairs, behind, before}
 
 module _ (m given : ℕ) (b : Book) where
   -- the four tests that the test of a book is made of
@@ -56,23 +56,39 @@ module _ (m given : ℕ) (b : Book) where
   facts : Passes → SoundBook m given b
   facts p = record {
     few = leb-true (b .count) 64 (p .few);
-    entries = λ i e at. entry-facts m given e (test-at (soundEntry m given) (entriesOf b) (p .entries) i e at);
-    two = two-at (entriesOf b) (p .two);
+    distinct = λ i j x y o k l. two i j x y o k l .numbers;
+    numbered = λ i e at. one i e at .number;
+    figures = λ i e at. one i e at .figures;
+    quotes = λ i j x y o k l. two i j x y o k l .quotes;
+    uncrossed = λ i j x y o k l. two i j x y o k l .uncrossed;
+    prices = λ i e at. one i e at .prices;
     unused = λ i e past at.
         unused-zero e (test-at unusedEntry (drop (b .count) (b .entries)) (p .unused) (i - b .count) e (behind (b .count) (b .entries) i e past at));
   }
+    where
+      one : Each b (SoundEntry m given)
+      one i e at = entry-facts m given e (test-at (soundEntry m given) (entriesOf b) (p .entries) i e at)
+
+      two : EachTwo b SoundTwo
+      two = two-at (entriesOf b) (p .two)
 
   -- and what is sound passes them
   tests : SoundBook m given b → Passes
   tests f = record {
     few = le-leb (b .count) 64 (f .few);
-    entries = at-test (soundEntry m given) (entriesOf b) (λ i e at. facts-entry m given e (f .entries i e at));
+    entries = at-test (soundEntry m given) (entriesOf b) (λ i e at. facts-entry m given e (one i e at));
     two = at-pairs soundPair (entriesOf b)
-        (λ i j x y o p q. facts-two x y (f .two i j x y (λ e. omega arith) p q) (f .two j i y x (λ e. omega arith) q p));
+        (λ i j x y o p q. facts-two x y (two i j x y (λ e. omega arith) p q) (two j i y x (λ e. omega arith) q p));
     unused = at-test unusedEntry (drop (b .count) (b .entries))
         (λ k e at. zero-unused e (f .unused (b .count + k) e (omega arith) (before (b .count) (b .entries) k e (b .count + k) refl at)));
   }
     where
+      one : Each b (SoundEntry m given)
+      one i e at = record { number = f .numbered i e at; figures = f .figures i e at; prices = f .prices i e at }
+
+      two : EachTwo b SoundTwo
+      two i j x y o p q = record { numbers = f .distinct i j x y o p q; quotes = f .quotes i j x y o p q; uncrossed = f .uncrossed i j x y o p q }
+
       zero-unused : (e : Entry) → e ≡ zeroEntry → unusedEntry e ≡ true
       zero-unused e h = rw h
 

@@ -1,5 +1,5 @@
 -- A SOUND BOOK, in the words of document 01 ("A state is sound if: .."), as plain facts. `soundBook` of crate sound is a test of just these
--- (proofs/Decides). What the list says of the series, its setup, phase and prices, is not said here.
+-- (proofs/Decides). What the list says of the series, its setup, phase and prices, is in crate series (specs/SoundSeries).
 -- Assumes nothing.
 use Prim.Native.Nat.{ℕ, _+_, _≤_, _<_, _%_}
 use mathlib.Core.Path.{_≡_}
@@ -35,6 +35,10 @@ pub record SoundSlide (m : ℕ) (s : Bool) (limit display working : ℕ) : Type 
   pub near : AtMost m s working display
   pub inside : Aggressive s limit working
 
+-- kinds 1 to 4 are quotes
+abbrev pub Quote : Entry → Type 0
+Quote e = e .kind ≤ 4
+
 -- the kinds by what is asked of their prices: plain, MMLO and displayed orders; MMALO and MMRP
 abbrev pub AtLimit : ℕ → Type 0
 AtLimit kind = (kind ≡ 1) ⊎ ((kind ≡ 2) ⊎ (kind ≡ 5))
@@ -42,38 +46,63 @@ AtLimit kind = (kind ≡ 1) ⊎ ((kind ≡ 2) ⊎ (kind ≡ 5))
 abbrev pub Slider : ℕ → Type 0
 Slider kind = (kind ≡ 3) ⊎ (kind ≡ 4)
 
--- EVERY ENTRY
-pub record SoundEntry (m given : ℕ) (e : Entry) : Type 0 where
-  -- kinds 1 to 6
-  pub kind : (1 ≤ e .kind) × (e .kind ≤ 6)
-  -- "entry numbers are .. among those given"
-  pub number : (1 ≤ e .number) × (e .number ≤ given)
-  -- "limits, quantities and parties are legal": "Quantity 1 to 99,999. Parties 1 to 99; only 1 to 16 are makers", and quotes are makers'
+-- ---- what is asked of each entry that rests ----
+
+-- "entry numbers are .. among those given"
+abbrev pub Numbered : ℕ → Entry → Type 0
+Numbered given e = (1 ≤ e .number) × (e .number ≤ given)
+
+-- "limits, quantities and parties are legal": "Quantity 1 to 99,999. Parties 1 to 99; only 1 to 16 are makers", and quotes are makers'
+pub record LegalFigures (m : ℕ) (e : Entry) : Type 0 where
   pub limit : LegalPrice m (e .limit)
   pub quantity : (1 ≤ e .quantity) × (e .quantity ≤ 99999)
   pub party : (1 ≤ e .party) × (e .party ≤ 99)
-  pub maker : e .kind ≤ 4 → e .party ≤ 16
+  pub maker : Quote e → e .party ≤ 16
+
+-- it is of one of the kinds 1 to 6, and its prices are as its kind has them
+pub record SoundPrices (m : ℕ) (e : Entry) : Type 0 where
+  pub kind : (1 ≤ e .kind) × (e .kind ≤ 6)
   -- "plain, MMLO and displayed orders display and work at the limit"
   pub plain : AtLimit (e .kind) → (e .pricing ≡ Fixed) × (e .working ≡ e .limit)
   -- "dark ones work at the limit"
   pub dark : e .kind ≡ 6 → (e .pricing ≡ Dark) × (e .working ≡ e .limit)
-  -- and those that slide
+  -- "for MMALO and MMRP, .."
   pub slides : Slider (e .kind) → (d : ℕ) × ((e .pricing ≡ Sliding d) × SoundSlide m (e .sell) (e .limit) d (e .working))
 
--- EVERY TWO ENTRIES
-pub record SoundTwo (x y : Entry) : Type 0 where
-  -- "entry numbers are distinct"
-  pub numbers : x .number ≡ y .number → ⊥
-  -- "one quote at most per maker and side"
-  pub quotes : x .kind ≤ 4 → y .kind ≤ 4 → x .party ≡ y .party → x .sell ≡ y .sell → ⊥
-  -- "every buy's working price is below every sell's"
-  pub uncrossed : x .sell ≡ false → y .sell ≡ true → x .working < y .working
+-- ---- what is asked of each two ----
 
--- THE BOOK
+-- "entry numbers are distinct"
+abbrev pub Distinct : Entry → Entry → Type 0
+Distinct x y = x .number ≡ y .number → ⊥
+
+-- "one quote at most per maker and side"
+abbrev pub OneQuote : Entry → Entry → Type 0
+OneQuote x y = Quote x → Quote y → x .party ≡ y .party → x .sell ≡ y .sell → ⊥
+
+-- "every buy's working price is below every sell's"
+abbrev pub Uncrossed : Entry → Entry → Type 0
+Uncrossed x y = x .sell ≡ false → y .sell ≡ true → x .working < y .working
+
+-- ---- the book ----
+
+-- P of each entry that rests; of each two, at different places
+abbrev pub Each : Book → (Entry → Type 0) → Type 0
+Each b P = (i : ℕ) (e : Entry) → At (entriesOf b) i e → P e
+
+abbrev pub EachTwo : Book → (Entry → Entry → Type 0) → Type 0
+EachTwo b P = (i j : ℕ) (x y : Entry) → (i ≡ j → ⊥) → At (entriesOf b) i x → At (entriesOf b) j y → P x y
+
+-- "unused places are zero"
+abbrev pub UnusedZero : Book → Type 0
+UnusedZero b = (i : ℕ) (e : Entry) → b .count ≤ i → At (b .entries) i e → e ≡ zeroEntry
+
+-- A SOUND BOOK; "At most 64 resting entries."
 pub record SoundBook (m given : ℕ) (b : Book) : Type 0 where
-  -- "At most 64 resting entries."
   pub few : b .count ≤ 64
-  pub entries : (i : ℕ) (e : Entry) → At (entriesOf b) i e → SoundEntry m given e
-  pub two : (i j : ℕ) (x y : Entry) → (i ≡ j → ⊥) → At (entriesOf b) i x → At (entriesOf b) j y → SoundTwo x y
-  -- "unused places are zero"
-  pub unused : (i : ℕ) (e : Entry) → b .count ≤ i → At (b .entries) i e → e ≡ zeroEntry
+  pub distinct : EachTwo b Distinct
+  pub numbered : Each b (Numbered given)
+  pub figures : Each b (LegalFigures m)
+  pub quotes : EachTwo b OneQuote
+  pub uncrossed : EachTwo b Uncrossed
+  pub prices : Each b (SoundPrices m)
+  pub unused : UnusedZero b

@@ -36,11 +36,13 @@ use Rattle.arrival.proofs.CutLaws.{quote-length, quote-few, quote-all, cut-all,
 use Rattle.arrival.proofs.SweepLaws.{spared, sweep-sound, sweep-packs, sweep-few, sweep-leaves, sweep-closed, sweep-halted}
 use Rattle.series.specs.declared.Series.{Series}
 use Rattle.series.specs.Series.{soundSeries}
-use Rattle.series.proofs.SeriesFacts.{terms-market, PhaseFacts, phase-open, none-left, facts-series}
+use Rattle.series.specs.SoundSeries.{SoundPhase}
+use Rattle.series.proofs.TermsLaws.{phase-open, none-left}
+use Rattle.series.proofs.SeriesFacts.{terms-market, facts-series}
 use Rattle.handler.specs.declared.Ask.{Ask}
 use Rattle.handler.specs.Asked.{askOf, enters}
 use Rattle.handler.specs.Accept.{comer, own, termsAfter, blockedAfter, settledIf, done, seriesAfter}
-use Rattle.handler.proofs.Passed.{Accepted, accepts, facts, enters-open, accepted-arriving, terms-legal}
+use Rattle.handler.proofs.Passed.{Accepted, accepts, facts, enters-open, accepted-arriving, terms-legal, numbers-few}
 use Rattle.handler.proofs.Ways.{Accepting, accepting, handled-accepted}
 use Rattle.handler.specs.Handle.{handled}
 
@@ -50,7 +52,7 @@ use Rattle.handler.specs.Handle.{handled}
 pub record Part (m top phase reports : ℕ) (x : Ran (List Entry) Report) : Type 0 where
   pub sound : soundEntries m top (x .final) ≡ true
   pub size : length (x .final) ≤ 64
-  pub rests : PhaseFacts phase (x .final)
+  pub rests : SoundPhase phase (x .final)
   pub fit : AllPack (x .records)
   pub few : length (x .records) ≤ reports
 
@@ -66,10 +68,10 @@ module _ (m top phase : ℕ) (l : List Entry) (step : mpv m ≡ true) (low : top
   so : Sound m top l
   so = is-sound m top l step entries
 
-  noted-part : PhaseFacts phase l → Part m top phase 72 (told Noted l)
+  noted-part : SoundPhase phase l → Part m top phase 72 (told Noted l)
   noted-part f = record { sound = entries; size = size; rests = f; fit = (noted-packs, tt); few = omega arith }
 
-  entry-part : (party number : ℕ) → PhaseFacts phase l → Part m top phase 72 (cancelEntry party number l)
+  entry-part : (party number : ℕ) → SoundPhase phase l → Part m top phase 72 (cancelEntry party number l)
   entry-part party number f = record {
     sound = sound-is m top (cancel-entry-sound party l so number);
     size = omega (arith, cancel-entry-length party number l);
@@ -81,7 +83,7 @@ module _ (m top phase : ℕ) (l : List Entry) (step : mpv m ≡ true) (low : top
     few = omega (arith, cancel-entry-few party number l);
   }
 
-  quote-part : (party : ℕ) (side : Bool) → PhaseFacts phase l → Part m top phase 72 (cancelQuote party side l)
+  quote-part : (party : ℕ) (side : Bool) → SoundPhase phase l → Part m top phase 72 (cancelQuote party side l)
   quote-part party side f = record {
     sound = sound-is m top (cancel-quote-sound party l so side);
     size = omega (arith, quote-length 28 party side l);
@@ -134,16 +136,16 @@ module _ (s : Series) (a : Ask) (ok : Accepted s a) where
           record { sound = r .sound; size = r .size; rests = rw (enters-open s a ok q) (phase-open _); fit = r .fit; few = own-few (accepted-arriving s a ok q) }
       go false q true q₇ b₈ q₈ true q₁₁ = absurd (omega (arith, eqb-true (a .kind) 7 q₇, eqb-true (a .kind) 11 q₁₁))
       go false q true q₇ b₈ q₈ false q₁₁ =
-          entry-part (t .m) (t .given) (t .phase) l (facts s a ok .terms .step) (facts s a ok .terms .numbers) (facts s a ok .book .entries) (facts s a ok .book .size) (a .party) (a .entry)
-          (facts s a ok .phase)
+          entry-part (t .m) (t .given) (t .phase) l (facts s a ok .step) (facts s a ok .sound .most) (facts s a ok .entries) (facts s a ok .size) (a .party) (a .entry)
+          (facts s a ok .sound .phase)
       go false q false q₇ true q₈ true q₁₁ = absurd (omega (arith, eqb-true (a .kind) 8 q₈, eqb-true (a .kind) 11 q₁₁))
       go false q false q₇ true q₈ false q₁₁ =
-          quote-part (t .m) (t .given) (t .phase) l (facts s a ok .terms .step) (facts s a ok .terms .numbers) (facts s a ok .book .entries) (facts s a ok .book .size) (a .party) (a .sell)
-          (facts s a ok .phase)
+          quote-part (t .m) (t .given) (t .phase) l (facts s a ok .step) (facts s a ok .sound .most) (facts s a ok .entries) (facts s a ok .size) (a .party) (a .sell)
+          (facts s a ok .sound .phase)
       go false q false q₇ false q₈ true q₁₁ =
-          phase-part (t .m) (t .given) (a .quantity) l (facts s a ok .terms .step) (facts s a ok .terms .numbers) (facts s a ok .book .entries) (facts s a ok .book .size)
+          phase-part (t .m) (t .given) (a .quantity) l (facts s a ok .step) (facts s a ok .sound .most) (facts s a ok .entries) (facts s a ok .size)
       go false q false q₇ false q₈ false q₁₁ =
-          noted-part (t .m) (t .given) (t .phase) l (facts s a ok .terms .step) (facts s a ok .terms .numbers) (facts s a ok .book .entries) (facts s a ok .book .size) (facts s a ok .phase)
+          noted-part (t .m) (t .given) (t .phase) l (facts s a ok .step) (facts s a ok .sound .most) (facts s a ok .entries) (facts s a ok .size) (facts s a ok .sound .phase)
 
   -- which settling finds sound
   abbrev pub own-sound : SoundFor (marketOf (termsAfter (s .terms) a)) (own (s .terms) a (entriesOf (s .book)) .final)
@@ -166,7 +168,7 @@ module _ (s : Series) (a : Ask) (ok : Accepted s a) where
         sound = settles own-sound .sound;
         size = omega (arith, settles own-sound .fewer, own-part .size);
         rests = rw (eqb-true (t′ .phase) 1 q) (phase-open _);
-        fit = settles own-sound .fit (terms-legal s a ok .numbers);
+        fit = settles own-sound .fit (numbers-few s a ok);
         few = settles-few own-sound (own-part .size);
       }
       go false q = record { sound = own-part .sound; size = own-part .size; rests = own-part .rests; fit = tt; few = omega arith }
@@ -193,7 +195,7 @@ module _ (s : Series) (a : Ask) (ok : Accepted s a) where
   pub after-sound : soundSeries (seriesAfter s a) ≡ true
   after-sound =
       facts-series (termsAfter (s .terms) a) (blockedAfter (s .terms) a (entriesOf (s .book)) (s .blocked)) (done (s .terms) a (entriesOf (s .book)) .final)
-      (terms-legal s a ok) (done-part .sound) (done-part .size) (done-part .rests)
+      (terms-legal s a ok) (numbers-few s a ok) (done-part .sound) (done-part .size) (done-part .rests)
 
   -- ---- the room ----
 

@@ -124,7 +124,7 @@ acts-accepted x = record { sound = x .whole .sound; kind = x .kind; passes = x .
 module _ {s : Series} {a : Ask} (x : Acts s a) where
   pub acts-comer : a .kind ≤ 6 → (s .terms .given ≤ 1000000) × ((a .party ≤ 99) × (a .kind ≤ 6))
   acts-comer k =
-      (facts s a (acts-accepted x) .terms .numbers, (any-party a (omega arith) (tests s a (acts-accepted x) .party) .1, k))
+      (facts s a (acts-accepted x) .sound .most, (any-party a (omega arith) (tests s a (acts-accepted x) .party) .1, k))
 
   pub acts-enters : a .kind ≤ 6 → (e : Entry) → e ≡ comer (s .terms .given) a → Enters (s .terms) e (s .book)
   acts-enters k e q =

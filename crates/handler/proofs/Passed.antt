@@ -29,7 +29,9 @@ use Rattle.arrival.specs.Asks.{Arriving}
 use Rattle.arrival.proofs.CutLaws.{quote-length}
 use Rattle.series.specs.declared.Series.{Series}
 use Rattle.series.specs.Series.{soundSeries}
-use Rattle.series.proofs.SeriesFacts.{TermsFacts, SeriesFacts, series-facts}
+use Rattle.series.specs.SoundSeries.{NoneOrLegal, LegalTerms}
+use Rattle.series.proofs.TermsLaws.{given-price}
+use Rattle.series.proofs.SeriesFacts.{SeriesFacts, series-facts}
 use Rattle.handler.specs.declared.Ask.{Ask}
 use Rattle.handler.specs.Asked.{askOf, enters, quotes}
 use Rattle.handler.specs.Refuse.{makersOnly, badParty, badPrice, badQuantity, notOpen, isBlocked, isFull, isSpent, isMissing, refusalOf}
@@ -160,8 +162,8 @@ module _ (s : Series) (a : Ask) (ok : Accepted s a) where
       let quantity = within 1 99999 (a .quantity) (rw q at (tests .quantity)) in
       record {
         market = facts .market;
-        entries = facts .book .entries;
-        steps = facts .terms .steps;
+        entries = facts .entries;
+        steps = facts .sound .terms .steps;
         number = refl;
         fresh = enters-fresh q;
         kind-low = ok .kind;
@@ -172,27 +174,29 @@ module _ (s : Series) (a : Ask) (ok : Accepted s a) where
         limit = not-false (legal (s .terms .m) (a .price)) (rw q at (tests .price));
         some = quantity .0;
         most = quantity .1;
-        space = space-left (s .terms .given) (entriesOf (s .book)) a (facts .book .size) q (tests .space);
+        space = space-left (s .terms .given) (entriesOf (s .book)) a (facts .size) q (tests .space);
       }
 
   -- the series' numbers stay legal
-  pub terms-legal : TermsFacts (termsAfter (s .terms) a)
+  pub terms-legal : LegalTerms (termsAfter (s .terms) a)
   unfolding termsAfter
   terms-legal = record {
-    step = facts .terms .step;
-    steps = facts .terms .steps;
-    strike = facts .terms .strike;
+    step = facts .sound .terms .step;
+    steps = facts .sound .terms .steps;
+    strike = facts .sound .terms .strike;
     phase = cond-either (λ (n : ℕ). n ≤ 2) (eqb (a .kind) 11) (a .quantity) (s .terms .phase)
-        (λ q. leb-true (a .quantity) 2 (not-false (leb (a .quantity) 2) (rw (eqb-true (a .kind) 11 q) at (tests .quantity)))) (λ q. facts .terms .phase);
-    bid = cond-either (λ (n : ℕ). given (s .terms .m) n ≡ true) (eqb (a .kind) 9) (a .price) (s .terms .bid)
-        (λ q. and-left (given (s .terms .m) (a .price)) (given (s .terms .m) (a .second)) (aways q)) (λ q. facts .terms .bid);
-    offer = cond-either (λ (n : ℕ). given (s .terms .m) n ≡ true) (eqb (a .kind) 9) (a .second) (s .terms .offer)
-        (λ q. and-right (given (s .terms .m) (a .price)) (given (s .terms .m) (a .second)) (aways q)) (λ q. facts .terms .offer);
+        (λ q. leb-true (a .quantity) 2 (not-false (leb (a .quantity) 2) (rw (eqb-true (a .kind) 11 q) at (tests .quantity)))) (λ q. facts .sound .terms .phase);
+    bid = cond-either (λ (n : ℕ). NoneOrLegal (s .terms .m) n) (eqb (a .kind) 9) (a .price) (s .terms .bid)
+        (λ q. given-price (s .terms .m) (a .price) (and-left (given (s .terms .m) (a .price)) (given (s .terms .m) (a .second)) (aways q))) (λ q. facts .sound .terms .bid);
+    offer = cond-either (λ (n : ℕ). NoneOrLegal (s .terms .m) n) (eqb (a .kind) 9) (a .second) (s .terms .offer)
+        (λ q. given-price (s .terms .m) (a .second) (and-right (given (s .terms .m) (a .price)) (given (s .terms .m) (a .second)) (aways q))) (λ q. facts .sound .terms .offer);
     underlying = cond-either (λ (n : ℕ). n ≤ 100000) (eqb (a .kind) 10) (a .price) (s .terms .underlying)
-        (λ q. leb-true (a .price) 100000 (not-false (leb (a .price) 100000) (rw (eqb-true (a .kind) 10 q) at (tests .price)))) (λ q. facts .terms .underlying);
-    numbers = cond-either (λ (n : ℕ). n ≤ 1000000) (enters a) (s .terms .given + 1) (s .terms .given)
-        (λ q. omega (arith, enters-fresh q)) (λ q. facts .terms .numbers);
+        (λ q. leb-true (a .price) 100000 (not-false (leb (a .price) 100000) (rw (eqb-true (a .kind) 10 q) at (tests .price)))) (λ q. facts .sound .terms .underlying);
   }
     where
       aways : eqb (a .kind) 9 ≡ true → (given (s .terms .m) (a .price) && given (s .terms .m) (a .second)) ≡ true
       aways q = not-false (given (s .terms .m) (a .price) && given (s .terms .m) (a .second)) (rw (eqb-true (a .kind) 9 q) at (tests .price))
+
+  pub numbers-few : termsAfter (s .terms) a .given ≤ 1000000
+  unfolding termsAfter
+  numbers-few = cond-either (λ (n : ℕ). n ≤ 1000000) (enters a) (s .terms .given + 1) (s .terms .given) (λ q. omega (arith, enters-fresh q)) (λ q. facts .sound .most)

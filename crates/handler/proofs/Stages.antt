@@ -12,7 +12,7 @@ use Rattle.lists.specs.Run.{still}
 use Rattle.packing.specs.declared.report.Report.the-variants.{Noted}
 use Rattle.book.specs.declared.Entry.{Entry}
 use Rattle.book.specs.declared.Book.{Book}
-use Rattle.book.specs.Shape.{entriesOf, WellFormed}
+use Rattle.book.specs.Shape.{entriesOf}
 use Rattle.settling.specs.Stage.{Roomy, Staged, SoundFor, andThen}
 use Rattle.settling.specs.Settle.{settled}
 use Rattle.arrival.specs.declared.Terms.{Terms}
@@ -21,18 +21,12 @@ use Rattle.arrival.specs.Cancel.{cancelEntry, cancelQuote, sweep}
 use Rattle.arrival.specs.Arrive.{told, arrived}
 use Rattle.arrival.proofs.StageLaws.{staged-list, staged-then, staged-room}
 use Rattle.series.specs.declared.Series.{Series}
-use Rattle.series.specs.Series.{soundSeries}
-use Rattle.series.proofs.SeriesFacts.{series-facts, book-well}
 use Rattle.handler.specs.declared.Ask.{Ask}
 use Rattle.handler.specs.Asked.{enters}
 use Rattle.handler.specs.Accept.{comer, own, termsAfter, blockedAfter, settledIf, done}
 use Rattle.handler.specs.Handle.{Handled, accepted}
 use Rattle.handler.proofs.Passed.{Accepted}
 use Rattle.handler.proofs.Accepted.{own-sound, accepted-room}
-
--- a sound series has a well-formed book, in its array of 64
-pub sound-well : (s : Series) → soundSeries s ≡ true → length (s .book .entries) ≡ 64 → WellFormed (s .book)
-sound-well s h n = book-well (series-facts s h .book) n
 
 -- ---- which stage the message's own part is ----
 

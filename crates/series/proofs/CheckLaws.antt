@@ -19,7 +19,7 @@ use Rattle.checking.specs.Summary.{Checked, Summary, unsound}
 use Rattle.series.specs.declared.Series.{Series}
 use Rattle.series.specs.Series.{soundTerms, soundPhase, soundSeries}
 use Rattle.series.specs.Checks.{phaseWith, Tested}
-use Rattle.series.proofs.SeriesFacts.{terms-facts}
+use Rattle.series.proofs.TermsLaws.{step-mpv, terms-facts}
 
 -- an answer that says no
 refused : (s : Series) (r : Check) → r ≡ unsound → soundSeries s ≡ false → Tested s r
@@ -37,7 +37,7 @@ terms-fail s r h e = refused s r e (rw h)
 module _ (s : Series) (c : Check) (terms : soundTerms (s .terms) ≡ true) (k : Checked (s .terms .m) (s .terms .given) (s .book) c) where
   -- with sound numbers the verdict on the book is that of its clauses
   of-book : c .ok ≡ soundBook (s .terms .m) (s .terms .given) (s .book)
-  of-book = k .verdict ∙ rw (terms-facts (s .terms) terms .step)
+  of-book = k .verdict ∙ rw (step-mpv (terms-facts (s .terms) terms .0 .step))
 
   -- in a book that passed, the summary tells the clause of phases
   of-phase : c .ok ≡ true → soundPhase (s .terms .phase) (entriesOf (s .book)) ≡ phaseWith (s .terms .phase) (s .book .count) (c .quoted)

@@ -6,19 +6,25 @@ use mathlib.Core.Path.{_≡_, refl, sym, ap, _∙_}
 use mathlib.Core.Bool.{Bool, true, false, _&&_, _||_}
 use mathlib.Core.List.{List, []}
 use mathlib.Core.Option.{Option, none, some}
+use mathlib.Core.Logic.{inl}
 use native.Mathlib.Omega.{arith}
 use lib.Dec.{eqb, leb}
 use lib.ListN.{length, replicate}
 use borrow.Author.Tests.{leb-true}
 use Rattle.bits.specs.Fields.{equal}
-use Rattle.prices.specs.Step.{mpv, given}
+use Rattle.prices.specs.Step.{mpv}
+use Rattle.prices.proofs.StepLaws.{is-mpv}
 use Rattle.lists.specs.Tests.{all, pairs}
 use Rattle.lists.proofs.Bools.{and-left, and-right}
 use Rattle.packing.specs.declared.setup.Setup.{Setup}
 use Rattle.packing.specs.Codec.{onlyIf, fieldsIn, checked, thingOf, unpackOf}
 use Rattle.packing.specs.Setup.{codeOf, legal, setups}
 use Rattle.sound.specs.Sound.{between, soundEntries}
+use Rattle.checking.proofs.ClauseLaws.{between-both}
 use Rattle.series.specs.Series.{newSeries, noSeries, opened, soundTerms, soundSeries}
+use Rattle.series.specs.SoundSeries.{SoundSeries}
+use Rattle.series.proofs.TermsLaws.{mpv-step}
+use Rattle.series.proofs.Decides.{sound-series-decides}
 use Rattle.series.proofs.SeriesFacts.{facts-series}
 
 only-some : {A : Type 0} (b : Bool) (u : Option A) (a : A) → onlyIf b u ≡ some a → (b ≡ true) × (u ≡ some a)
@@ -43,26 +49,25 @@ setup-legal bytes x h = go (setups .claimed (fieldsIn setups bytes)) (only-some 
 
 -- legal values give a sound series
 pub legal-sound : (x : Setup) → legal x ≡ true → soundSeries (newSeries x) ≡ true
-unfolding mpv given soundEntries all pairs
+unfolding mpv soundEntries all pairs
 legal-sound x h =
     let step : Bool = eqb (x .m) 1 || (eqb (x .m) 5 || eqb (x .m) 10) in
     let rest = and-right step (leb (x .k) 100 && between 1 100000 (x .strike)) h in
     facts-series (newSeries x .terms) (replicate 16 false) []
     (record {
-      step = and-left step (leb (x .k) 100 && between 1 100000 (x .strike)) h;
+      step = mpv-step (is-mpv (x .m) (and-left step (leb (x .k) 100 && between 1 100000 (x .strike)) h));
       steps = leb-true (x .k) 100 (and-left (leb (x .k) 100) (between 1 100000 (x .strike)) rest);
-      strike = and-right (leb (x .k) 100) (between 1 100000 (x .strike)) rest;
+      strike = between-both 1 100000 (x .strike) (and-right (leb (x .k) 100) (between 1 100000 (x .strike)) rest);
       phase = omega arith;
-      bid = refl;
-      offer = refl;
+      bid = inl refl;
+      offer = inl refl;
       underlying = omega arith;
-      numbers = omega arith;
     })
-    refl (omega arith) (record { closed = λ p. refl; halted = λ p. tt })
+    (omega arith) refl (omega arith) (record { closed = λ p. refl; halted = λ p. tt })
 
 -- EVERY SETUP THAT UNPACKS GIVES A SOUND SERIES
-pub setup-sound : (bytes : List ℕ) (x : Setup) → unpackOf setups bytes ≡ some x → soundSeries (newSeries x) ≡ true
-setup-sound bytes x h = legal-sound x (setup-legal bytes x h)
+pub setup-sound : (bytes : List ℕ) (x : Setup) → unpackOf setups bytes ≡ some x → SoundSeries (newSeries x)
+setup-sound bytes x h = sound-series-decides (newSeries x) .0 (legal-sound x (setup-legal bytes x h))
 
 -- NOBODY CAN USE WHAT STANDS FOR NO SERIES
 pub none-unsound : soundSeries noSeries ≡ false
@@ -75,4 +80,4 @@ opened-sound bytes = go (unpackOf setups bytes) refl
   where
     go : (u : Option Setup) → unpackOf setups bytes ≡ u → eqb (opened u .refusal) 0 ≡ soundSeries (opened u .series)
     go none k = sym none-unsound
-    go (some x) k = sym (setup-sound bytes x k)
+    go (some x) k = sym (legal-sound x (setup-legal bytes x k))

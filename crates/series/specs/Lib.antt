@@ -1,2 +1,3 @@
 pub mod Series
+pub mod SoundSeries
 pub mod Checks

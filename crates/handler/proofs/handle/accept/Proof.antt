@@ -16,7 +16,7 @@ act-requires : tie.Need-act-requires
 act-requires c κs = (c .before .before .before .before .pre .0, own-room (c .before .before .before .before .args .s) (c .before .before .before .before .args .a) (acts-accepted (c .before .before .before .before .pre .0)) _ (c .before .before .before .before .pre .1))
 
 terms-after-requires : tie.Need-terms-after-requires
-terms-after-requires c κs = facts (c .before .before .before .before .before .before .before .args .s) (c .before .before .before .before .before .before .before .args .a) (acts-accepted (c .before .before .before .before .before .before .before .pre .0)) .terms .numbers
+terms-after-requires c κs = facts (c .before .before .before .before .before .before .before .args .s) (c .before .before .before .before .before .before .before .args .a) (acts-accepted (c .before .before .before .before .before .before .before .pre .0)) .sound .most
 
 settle-if-requires : tie.Need-settle-if-requires
 settle-if-requires c κs = settles-next (c .before .before .before .before .before .before .before .before .before .before .args .s) (c .before .before .before .before .before .before .before .before .before .before .args .a) (c .before .before .before .before .before .before .before .before .before .before .pre .0) (c .before .before .before .before .before .before .before .before .before .before .pre .1) (c .before .before .before .before .before .act .ensures) _ (c .before .before .terms-after .ensures)

@@ -1,0 +1,129 @@
+-- A series' numbers and its phase: test and fact, clause by clause.
+-- Assumes nothing.
+use Prim.Native.Nat.{ℕ, _≤_}
+use mathlib.Core.Path.{_≡_, refl}
+use mathlib.Core.Bool.{Bool, true, false, cond, not, _&&_, _||_}
+use mathlib.Core.List.{List, [], _∷_}
+use mathlib.Core.Logic.{_⊎_, inl, inr}
+use native.Mathlib.Omega.{arith}
+use lib.Dec.{eqb, leb}
+use lib.ListN.{length}
+use borrow.Author.Tests.{leb-true, le-leb, eqb-true, not-true}
+use Rattle.prices.specs.Step.{mpv, legal, given}
+use Rattle.prices.proofs.StepLaws.{Mpv, cent, nickel, dime, is-mpv}
+use Rattle.lists.specs.Tests.{All, any}
+use Rattle.lists.proofs.Bools.{and-left, and-right}
+use Rattle.lists.proofs.TestLaws.{any-false}
+use Rattle.book.specs.declared.Entry.{Entry}
+use Rattle.book.specs.Entries.{quote}
+use Rattle.sound.specs.Sound.{between}
+use Rattle.checking.proofs.ClauseLaws.{between-both, both-between}
+use Rattle.checking.proofs.DecideLaws.{legal-price, price-legal}
+use Rattle.arrival.specs.declared.Terms.{Terms}
+use Rattle.series.specs.Series.{soundTerms, soundPhase}
+use Rattle.series.specs.SoundSeries.{NoneOrLegal, LegalTerms, SoundPhase}
+
+pub both : (a b : Bool) → (a && b) ≡ true → (a ≡ true) × (b ≡ true)
+both a b e = (and-left a b e, and-right a b e)
+
+-- ---- a series' numbers ----
+
+pub mpv-step : {m : ℕ} → Mpv m → (m ≡ 1) ⊎ ((m ≡ 5) ⊎ (m ≡ 10))
+mpv-step cent = inl refl
+mpv-step nickel = inr (inl refl)
+mpv-step dime = inr (inr refl)
+
+pub step-mpv : {m : ℕ} → (m ≡ 1) ⊎ ((m ≡ 5) ⊎ (m ≡ 10)) → mpv m ≡ true
+unfolding mpv
+step-mpv (inl e) = rw e
+step-mpv (inr (inl e)) = rw e
+step-mpv (inr (inr e)) = rw e
+
+pub given-price : (m p : ℕ) → given m p ≡ true → NoneOrLegal m p
+unfolding given
+given-price m p h = go (eqb p 0) refl h
+  where
+    go : (b : Bool) → eqb p 0 ≡ b → (b || legal m p) ≡ true → NoneOrLegal m p
+    go true e g = inl (eqb-true p 0 e)
+    go false e g = inr (legal-price m p g)
+
+pub price-given : (m p : ℕ) → NoneOrLegal m p → given m p ≡ true
+unfolding given
+price-given m p (inl e) = rw e
+price-given m p (inr l) = go (eqb p 0)
+  where
+    go : (b : Bool) → (b || legal m p) ≡ true
+    go true = refl
+    go false = price-legal m p l
+
+module _ (t : Terms) where
+  pub terms-facts : soundTerms t ≡ true → LegalTerms t × (t .given ≤ 1000000)
+  unfolding soundTerms
+  terms-facts h =
+      let h₇ : Bool = leb (t .underlying) 100000 && leb (t .given) 1000000 in
+      let h₆ : Bool = given (t .m) (t .offer) && h₇ in
+      let h₅ : Bool = given (t .m) (t .bid) && h₆ in
+      let h₄ : Bool = leb (t .phase) 2 && h₅ in
+      let h₃ : Bool = between 1 100000 (t .strike) && h₄ in
+      let a = both (mpv (t .m)) (leb (t .k) 100 && h₃) h in
+      let b = both (leb (t .k) 100) h₃ (a .1) in
+      let c = both (between 1 100000 (t .strike)) h₄ (b .1) in
+      let d = both (leb (t .phase) 2) h₅ (c .1) in
+      let e = both (given (t .m) (t .bid)) h₆ (d .1) in
+      let f = both (given (t .m) (t .offer)) h₇ (e .1) in
+      let g = both (leb (t .underlying) 100000) (leb (t .given) 1000000) (f .1) in (
+        record {
+          step = mpv-step (is-mpv (t .m) (a .0));
+          steps = leb-true (t .k) 100 (b .0);
+          strike = between-both 1 100000 (t .strike) (c .0);
+          phase = leb-true (t .phase) 2 (d .0);
+          bid = given-price (t .m) (t .bid) (e .0);
+          offer = given-price (t .m) (t .offer) (f .0);
+          underlying = leb-true (t .underlying) 100000 (g .0);
+        },
+        leb-true (t .given) 1000000 (g .1),
+      )
+
+  pub facts-terms : LegalTerms t → t .given ≤ 1000000 → soundTerms t ≡ true
+  unfolding soundTerms
+  facts-terms f most = rw (
+    step-mpv (f .step),
+    le-leb (t .k) 100 (f .steps),
+    both-between 1 100000 (t .strike) (f .strike),
+    le-leb (t .phase) 2 (f .phase),
+    price-given (t .m) (t .bid) (f .bid),
+    price-given (t .m) (t .offer) (f .offer),
+    le-leb (t .underlying) 100000 (f .underlying),
+    le-leb (t .given) 1000000 most,
+  )
+
+-- ---- the phase ----
+
+pub none-left : (l : List Entry) → length l ≡ 0 → l ≡ []
+none-left [] h = refl
+none-left (x ∷ l) h = absurd (omega arith)
+
+none-any : (test : Entry → Bool) (l : List Entry) → All (λ (x : Entry). test x ≡ false) l → any test l ≡ false
+unfolding any
+none-any test [] a = refl
+none-any test (x ∷ l) a = rw (a .0) (none-any test l (a .1))
+
+pub phase-facts : (phase : ℕ) (l : List Entry) → soundPhase phase l ≡ true → SoundPhase phase l
+unfolding soundPhase
+phase-facts phase l h = record {
+  closed = λ p. none-left l (eqb-true (length l) 0 (rw p at h));
+  halted = λ p. any-false quote l (not-true (any quote l) (rw p at h));
+}
+
+pub facts-phase : (phase : ℕ) (l : List Entry) → SoundPhase phase l → soundPhase phase l ≡ true
+unfolding soundPhase
+facts-phase phase l f = go (eqb phase 0) refl (eqb phase 2) refl
+  where
+    go : (a : Bool) → eqb phase 0 ≡ a → (b : Bool) → eqb phase 2 ≡ b → cond a (eqb (length l) 0) (cond b (not (any quote l)) true) ≡ true
+    go true p b q = rw (f .closed (eqb-true phase 0 p)) refl
+    go false p true q = rw (none-any quote l (f .halted (eqb-true phase 2 q))) refl
+    go false p false q = refl
+
+-- an open series may hold anything
+pub phase-open : (l : List Entry) → SoundPhase 1 l
+phase-open l = record { closed = λ p. absurd (omega arith); halted = λ p. absurd (omega arith) }
