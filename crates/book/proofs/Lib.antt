@@ -1,3 +1,4 @@
 pub mod ShapeLaws
 pub mod ChangeLaws
+pub mod OfferLaws
 pub mod LookLaws

@@ -1,22 +1,26 @@
 -- What the searches find, with no scan in it: the place is pinned, and nothing else fits.
 -- Assumes nothing.
 use Prim.Native.Nat.{ℕ, _+_, _*_, _≤_, _<_}
-use mathlib.Core.Path.{_≡_, refl, sym, ap}
+use mathlib.Core.Path.{_≡_, refl, sym, ap, _∙_}
 use mathlib.Core.Bool.{Bool, true, false, cond, not, _&&_, _||_}
-use mathlib.Core.List.{List}
+use mathlib.Core.List.{List, [], _∷_, _++_}
+use mathlib.Core.Logic.{_⊎_, inl, inr, ⊎-elim}
 use native.Mathlib.Omega.{arith}
 use lib.Dec.{eqb, ltb}
 use lib.ListN.{length, getD}
 use borrow.Author.Tests.{lt-ltb, ltb-true, ltb-false}
+use Rattle.prices.specs.Side.{nearer}
 use Rattle.lists.specs.Places.{At}
 use Rattle.lists.specs.Choose.{Found, nowhere, found, first, lesser, keyed}
-use Rattle.lists.proofs.ChooseLaws.{Nobody, Chosen, Tells, first-tells}
+use Rattle.lists.proofs.PlaceLaws.{at-left, at-last, at-snoc}
+use Rattle.lists.proofs.ChooseLaws.{scan-says, Nobody, Chosen, Tells, first-tells}
 use Rattle.lists.proofs.LoopLaws.{Held, nothing, something, Lowering, lower-taken, lower-kept}
 use Rattle.lists.proofs.Bools.{clash}
 use Rattle.book.specs.declared.Entry.{Entry}
 use Rattle.book.specs.declared.Least.{Least}
-use Rattle.book.specs.Entries.{displayed, own, quoteOf}
-use Rattle.book.specs.Look.{rankOf, rankHeld, lower, cost, priority, eligible, bestContra, entryOf, quoteIn, lowest}
+use Rattle.book.specs.Entries.{display, displayed, against, own, quoteOf}
+use Rattle.book.specs.Look.{rankOf, rankHeld, lower, cost, priority, eligible, bestContra, working, facing, nearest, contra, national, entryOf, quoteIn, lowest}
+use Rattle.book.proofs.OfferLaws.{Best, Alone, best-alone, best-nearer, best-same}
 
 -- THE BEST CONTRA ENTRY has the best price of all that are eligible; of those at its price none is displayed unless it is; and of those that
 -- are displayed as it is, none is older.
@@ -72,6 +76,72 @@ module _ (s shownOnly : Bool) (l : List Entry) where
   pub contra-tells : ContraTells s shownOnly l (bestContra s shownOnly l)
   unfolding bestContra
   contra-tells = says (first (eligible s shownOnly) (lesser (priority s)) l) (first-tells (eligible s shownOnly) (priority s) l)
+
+-- ---- the prices that a side faces ----
+
+-- what entries offer to side s: p is the price of one that faces it; a price of 0 is none ("a report shows display 0 for a dark entry")
+pub record Offered (price : Entry → ℕ) (s : Bool) (l : List Entry) (p : ℕ) : Type 0 where
+  pub place : ℕ
+  pub entry : Entry
+  pub there : At l place entry
+  pub faces : against s entry ≡ true
+  pub asks : price entry ≡ p
+  pub some : 1 ≤ p
+
+-- with a price from elsewhere
+abbrev pub OnOffer : (Entry → ℕ) → Bool → ℕ → List Entry → ℕ → Type 0
+OnOffer price s a l p = Alone a p ⊎ Offered price s l p
+
+module _ (price : Entry → ℕ) (s : Bool) where
+  offered-left : (l : List Entry) (x : Entry) (p : ℕ) → Offered price s l p → Offered price s (l ++ (x ∷ [])) p
+  offered-left l x p o = record {
+    place = o .place;
+    entry = o .entry;
+    there = at-left l (x ∷ []) (o .place) (o .entry) (o .there);
+    faces = o .faces;
+    asks = o .asks;
+    some = o .some;
+  }
+
+  offered-last : (l : List Entry) (x : Entry) (p : ℕ) → against s x ≡ true → Alone (price x) p → Offered price s (l ++ (x ∷ [])) p
+  offered-last l x p f h = record { place = length l; entry = x; there = at-last l x; faces = f; asks = h .0; some = h .1 }
+
+  offered-snoc : (l : List Entry) (x : Entry) (p : ℕ) → Offered price s (l ++ (x ∷ [])) p
+      → Offered price s l p ⊎ ((against s x ≡ true) × Alone (price x) p)
+  offered-snoc l x p o =
+      ⊎-elim (λ h. inl (record { place = o .place; entry = o .entry; there = h; faces = o .faces; asks = o .asks; some = o .some }))
+      (λ h. inr (ap (against s) (h .1) ∙ o .faces, (ap price (h .1) ∙ o .asks, o .some))) (at-snoc l x (o .place) (o .entry) (o .there))
+
+  module _ (a : ℕ) where
+    turn-best : (l : List Entry) (x : Entry) (q : ℕ) → Best s (OnOffer price s a l) q → (b : Bool) → against s x ≡ b
+        → Best s (OnOffer price s a (l ++ (x ∷ []))) (cond b (nearer s q (price x)) q)
+    turn-best l x q h true f =
+        best-same (λ p o. ⊎-elim (λ k. ⊎-elim inl (λ m. inr (offered-left l x p m)) k) (λ k. inr (offered-last l x p f k)) o)
+        (λ p o. ⊎-elim (λ k. inl (inl k)) (λ k. ⊎-elim (λ m. inl (inr m)) (λ m. inr (m .1)) (offered-snoc l x p k)) o) (best-nearer h (best-alone s (price x)))
+    turn-best l x q h false f =
+        best-same (λ p o. ⊎-elim inl (λ m. inr (offered-left l x p m)) o)
+        (λ p o. ⊎-elim inl (λ k. ⊎-elim inr (λ m. clash (m .0) f) (offered-snoc l x p k)) o) h
+
+    -- THE NEAREST PRICE is the best that is on offer, of which there is only one (OfferLaws, best-one)
+    pub nearest-tells : (l : List Entry) → Best s (OnOffer price s a l) (nearest price s a l)
+    unfolding nearest
+    nearest-tells l =
+        scan-says (λ (p : ℕ) (_ : ℕ) (e : Entry). facing price s p e) (λ (r : List Entry) (q : ℕ). Best s (OnOffer price s a r) q)
+        (λ r x q h. turn-best r x q h (against s x) refl) a (best-same (λ p h. inl h) (λ p h. ⊎-elim (λ k. k) (λ k. absurd (k .there)) h) (best-alone s a)) l
+
+  -- with none from elsewhere
+  pub nearest-offered : (l : List Entry) → Best s (Offered price s l) (nearest price s 0 l)
+  nearest-offered l = best-same (λ p h. ⊎-elim (λ k. absurd (omega (arith, k .0, k .1))) (λ k. k) h) (λ p h. inr h) (nearest-tells 0 l)
+
+-- C, THE BEST WORKING PRICE of the entries that face side s, dark included
+pub contra-price-tells : (s : Bool) (l : List Entry) → Best s (Offered working s l) (contra s l)
+contra-price-tells s l = nearest-offered working s l
+
+-- NBO AND NBB, THE BEST of the away price a and of the displays of the entries that face side s
+pub national-tells : (s : Bool) (a : ℕ) (l : List Entry) → Best s (OnOffer display s a l) (national s a l)
+national-tells s a l = nearest-tells display s a l
+
+-- ---- whom a message names ----
 
 -- A PARTY'S ENTRY, A MAKER'S QUOTE: the oldest that is so, of which in a sound book there is one at most
 module _ (l : List Entry) where

@@ -1,6 +1,6 @@
 -- The best prices, by maxima and minima, are those that each side faces (book's `contra` and `national`).
 -- Assumes nothing.
-use Prim.Native.Nat.{ℕ, zero, suc, _+_, _≤_, min, max}
+use Prim.Native.Nat.{ℕ, _≤_, min, max}
 use mathlib.Core.Path.{_≡_, refl, sym, ap, _∙_}
 use mathlib.Core.Bool.{Bool, true, false, cond, Bool·beq}
 use mathlib.Core.List.{List, [], _∷_, _++_}
@@ -9,10 +9,10 @@ use borrow.Author.Tests.{ltb-true, ltb-false, lt-ltb, le-ltb, eqb-true, eqb-fals
 use lib.Dec.{eqb, ltb}
 use Rattle.prices.specs.Side.{nearer, meek}
 use Rattle.lists.specs.Choose.{scan}
-use Rattle.lists.proofs.Bools.{clash}
 use Rattle.book.specs.declared.Entry.{Entry}
-use Rattle.book.specs.Entries.{against}
 use Rattle.book.specs.Look.{nearest, facing}
+use Rattle.book.proofs.OfferLaws.{best-alone, best-nearer, best-one}
+use Rattle.book.proofs.LookLaws.{nearest-tells, nearest-offered}
 use Rattle.checking.specs.Summary.{higher, lower, held, told, buysAt, sellsAt}
 use Rattle.checking.proofs.PairLaws.{scan-snoc}
 
@@ -122,57 +122,7 @@ lowest-told price l p h = rw (h .holds) (go (eqb (nearest price false 0 l) 0) re
     go true f = sym (eqb-true (nearest price false 0 l) 0 f)
     go false f = rw (ne-eqb (nearest price false 0 l) 1000000 (λ e. omega (arith, h .high)))
 
--- ---- reading on from a price is the nearer of it and what is read from none ----
+-- ---- reading on from a price is the nearer of it and what is read from none: both are the best of what is on offer ----
 
-nearer-none : (s : Bool) (p : ℕ) → nearer s p 0 ≡ p
-unfolding nearer
-nearer-none s p = go (eqb p 0) refl
-  where
-    go : (b : Bool) → eqb p 0 ≡ b → cond b 0 p ≡ p
-    go true e = sym (eqb-true p 0 e)
-    go false e = refl
-
-some-price : (p : ℕ) → eqb p 0 ≡ false → 1 ≤ p
-some-price zero e = clash refl e
-some-price (suc p) e = omega arith
-
-meek-some : (s : Bool) (p q : ℕ) → 1 ≤ p → 1 ≤ q → eqb (meek s p q) 0 ≡ false
-unfolding meek
-meek-some false p q a b = ne-eqb (min p q) 0 (λ e. omega arith)
-meek-some true p q a b = ne-eqb (max p q) 0 (λ e. omega arith)
-
-meek-group : (s : Bool) (p q v : ℕ) → meek s (meek s p q) v ≡ meek s p (meek s q v)
-unfolding meek
-meek-group false p q v = omega arith
-meek-group true p q v = omega arith
-
-nearer-group : (s : Bool) (p q v : ℕ) → nearer s (nearer s p q) v ≡ nearer s p (nearer s q v)
-unfolding nearer
-nearer-group s p q v = go (eqb p 0) refl (eqb q 0) refl (eqb v 0) refl
-  where
-    go : (a : Bool) → eqb p 0 ≡ a → (b : Bool) → eqb q 0 ≡ b → (c : Bool) → eqb v 0 ≡ c
-        → nearer s (cond a q (cond b p (meek s p q))) v ≡ cond a (cond b v (cond c q (meek s q v))) (cond (eqb (cond b v (cond c q (meek s q v))) 0) p (meek s p (cond b v (cond c q (meek s q v)))))
-    go true e b f c g = rw (f, g)
-    go false e true f true g = rw (e, g)
-    go false e true f false g = rw (e, g)
-    go false e false f true g = rw (meek-some s p q (some-price p e) (some-price q f), f, g)
-    go false e false f false g =
-        rw (meek-some s p q (some-price p e) (some-price q f), meek-some s q v (some-price q f) (some-price v g), g) (meek-group s p q v)
-
-module _ (price : Entry → ℕ) (s : Bool) where
-  read-on : ℕ → ℕ → List Entry → ℕ
-  read-on q i l = scan (λ (t : ℕ) (_ : ℕ) (e : Entry). facing price s t e) q i l
-
-  facing-group : (b : Bool) (p q v : ℕ) → cond b (nearer s (nearer s p q) v) (nearer s p q) ≡ nearer s p (cond b (nearer s q v) q)
-  facing-group true p q v = nearer-group s p q v
-  facing-group false p q v = refl
-
-  from-nearer : (l : List Entry) (p q i : ℕ) → read-on (nearer s p q) i l ≡ nearer s p (read-on q i l)
-  unfolding read-on scan
-  from-nearer [] p q i = refl
-  from-nearer (x ∷ l) p q i =
-      ap (λ (t : ℕ). read-on t (i + 1) l) (facing-group (against s x) p q (price x)) ∙ from-nearer l p (facing price s q x) (i + 1)
-
-  pub nearest-away : (a : ℕ) (l : List Entry) → nearest price s a l ≡ nearer s a (nearest price s 0 l)
-  unfolding nearest read-on
-  nearest-away a l = ap (λ (t : ℕ). read-on t 0 l) (sym (nearer-none s a)) ∙ from-nearer l a 0 0
+pub nearest-away : (price : Entry → ℕ) (s : Bool) (a : ℕ) (l : List Entry) → nearest price s a l ≡ nearer s a (nearest price s 0 l)
+nearest-away price s a l = best-one (nearest-tells price s a l) (best-nearer (best-alone s a) (nearest-offered price s l))

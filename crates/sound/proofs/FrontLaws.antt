@@ -5,73 +5,34 @@ use Prim.Native.Nat.{ℕ, zero, suc, _+_, _≤_, _<_, min}
 use mathlib.Core.Path.{_≡_, refl, subst, ap, _∙_}
 use mathlib.Core.Bool.{Bool, true, false, cond, not, Bool·beq}
 use mathlib.Core.List.{List, [], _∷_, _++_}
+use mathlib.Core.Logic.{inl, inr}
 use native.Mathlib.Omega.{arith}
 use lib.Dec.{eqb}
-use Rattle.prices.specs.Side.{meek, nearer}
-use Rattle.prices.proofs.FrameLaws.{seen, seen-high, seen-meek, meek-either}
-use Rattle.prices.proofs.StepLaws.{Mpv, Legal, Given, given-none, given-legal, present}
-use Rattle.prices.proofs.AimLaws.{unbound, faced, faced-high}
+use borrow.Author.Tests.{eqb-true}
+use Rattle.prices.proofs.FrameLaws.{seen, seen-high}
+use Rattle.prices.proofs.StepLaws.{Legal, Given, given-none, given-legal, present}
+use Rattle.prices.proofs.AimLaws.{unbound, faced}
 use Rattle.lists.specs.Places.{At, without, requeue}
 use Rattle.lists.specs.Tests.{All}
-use Rattle.lists.specs.Choose.{scan}
 use Rattle.lists.proofs.Bools.{clash, and-left, and-both}
 use Rattle.lists.proofs.TestLaws.{all-map, all-at, all-of}
 use Rattle.book.specs.declared.Entry.{Entry}
 use Rattle.book.specs.Entries.{against}
-use Rattle.book.specs.Look.{cost, working, facing, nearest, contra}
-use Rattle.book.proofs.LookLaws.{BestContra}
+use Rattle.book.specs.Look.{cost, working, nearest, contra}
+use Rattle.book.proofs.OfferLaws.{AsGood, best-none, positive}
+use Rattle.book.proofs.LookLaws.{BestContra, Offered, OnOffer, nearest-tells, contra-price-tells}
 use Rattle.sound.proofs.Facts.{EntryFacts, Clear, Sound}
 
--- ---- a scan for the nearest price, of whatever kind ----
+-- ---- the nearest price, of whatever kind ----
 
-given-nearer : {m p q : ℕ} (s : Bool) → Given m p → Given m q → Given m (nearer s p q)
-unfolding nearer
-given-nearer {m} {p} {q} s a b = go (eqb p 0) refl (eqb q 0) refl
+-- the nearest of prices that are none or legal is one
+pub given-nearest : {m : ℕ} (price : Entry → ℕ) (s : Bool) (q : ℕ) (l : List Entry) → Given m q → All (λ (e : Entry). Given m (price e)) l
+    → Given m (nearest price s q l)
+given-nearest {m} price s q l g a = record { legal = λ e. by e (nearest-tells price s q l .some (positive (nearest price s q l) e)) }
   where
-    go : (t : Bool) → eqb p 0 ≡ t → (u : Bool) → eqb q 0 ≡ u → Given m (cond t q (cond u p (meek s p q)))
-    go true e u f = b
-    go false e true f = a
-    go false e false f = given-legal (meek-either (Legal m) s p q (a .legal e) (b .legal f))
-
-none-is : (s : Bool) (x : ℕ) → eqb x 0 ≡ true → faced s x ≡ unbound
-unfolding faced
-none-is s x e = rw e
-
-some-is : (s : Bool) (x : ℕ) → eqb x 0 ≡ false → faced s x ≡ seen s x
-unfolding faced
-some-is s x e = rw e
-
-faced-nearer : {m p q : ℕ} (s : Bool) → Mpv m → Given m p → Given m q → faced s (nearer s p q) ≡ min (faced s p) (faced s q)
-unfolding nearer
-faced-nearer {m} {p} {q} s v a b = go (eqb p 0) refl (eqb q 0) refl
-  where
-    go : (t : Bool) → eqb p 0 ≡ t → (u : Bool) → eqb q 0 ≡ u → faced s (cond t q (cond u p (meek s p q))) ≡ min (faced s p) (faced s q)
-    go true e u f = omega (arith, none-is s p e, faced-high s b)
-    go false e true f = omega (arith, none-is s q f, faced-high s a)
-    go false e false f =
-        omega (
-          arith,
-          some-is s p e,
-          some-is s q f,
-          seen-meek s p q,
-          some-is s (meek s p q) (present v (meek-either (Legal m) s p q (a .legal e) (b .legal f))),
-        )
-
-module _ {m : ℕ} (price : Entry → ℕ) (s : Bool) where
-  given-turn : (q : ℕ) (e : Entry) (b : Bool) → Given m q → Given m (price e) → Given m (cond b (nearer s q (price e)) q)
-  given-turn q e true g h = given-nearer s g h
-  given-turn q e false g h = g
-
-  given-scan : (q i : ℕ) (l : List Entry) → Given m q → All (λ (e : Entry). Given m (price e)) l
-      → Given m (scan (λ (p : ℕ) (_ : ℕ) (e : Entry). facing price s p e) q i l)
-  unfolding scan
-  given-scan q i [] g a = g
-  given-scan q i (e ∷ l) g a = given-scan (facing price s q e) (i + 1) l (given-turn q e (against s e) g (a .0)) (a .1)
-
-  -- the nearest of prices that are none or legal is one
-  pub given-nearest : (q : ℕ) (l : List Entry) → Given m q → All (λ (e : Entry). Given m (price e)) l → Given m (nearest price s q l)
-  unfolding nearest
-  given-nearest q l g a = given-scan q 0 l g a
+    by : eqb (nearest price s q l) 0 ≡ false → OnOffer price s q l (nearest price s q l) → Legal m (nearest price s q l)
+    by e (inl h) = subst (Given m) (h .0) g .legal e
+    by e (inr o) = subst (Given m) (o .asks) (all-at (λ (z : Entry). Given m (price z)) l (o .place) (o .entry) a (o .there)) .legal e
 
 -- ---- the nearest working price, with no scan in it ----
 
@@ -91,46 +52,68 @@ front-high s (e ∷ l) = more (against s e) (front-high s l)
     more true h = omega arith
     more false h = h
 
-module _ {m : ℕ} (s : Bool) (v : Mpv m) where
-  turn-is : (q : ℕ) (e : Entry) (b : Bool) → Given m q → Legal m (e .working)
-      → faced s (cond b (nearer s q (e .working)) q) ≡ closer b (seen s (e .working)) (faced s q)
-  unfolding faced
-  turn-is q e true g a = omega (arith, faced-nearer s v g (given-legal a), ap (λ (t : Bool). cond t unbound (seen s (e .working))) (present v a))
-  turn-is q e false g a = refl
+front-below : (s : Bool) (l : List Entry) (i : ℕ) (y : Entry) → At l i y → against s y ≡ true → front s l ≤ seen s (y .working)
+front-below s [] i y h a = absurd h
+front-below s (x ∷ l) zero y h a = subst (λ (z : Entry). closer (against s x) (seen s (x .working)) (front s l) ≤ seen s (z .working)) h (low (against s x) (ap (against s) h ∙ a))
+  where
+    low : (b : Bool) → b ≡ true → closer b (seen s (x .working)) (front s l) ≤ seen s (x .working)
+    low true e = omega arith
+    low false e = clash e refl
+front-below s (x ∷ l) (suc i) y h a = more (against s x) (front-below s l i y h a)
+  where
+    more : (b : Bool) → front s l ≤ seen s (y .working) → closer b (seen s (x .working)) (front s l) ≤ seen s (y .working)
+    more true k = omega arith
+    more false k = k
 
-  front-scan : (q i : ℕ) (l : List Entry) → Given m q → All (λ (e : Entry). Legal m (e .working)) l
-      → faced s (scan (λ (p : ℕ) (_ : ℕ) (e : Entry). facing working s p e) q i l) ≡ min (faced s q) (front s l)
-  unfolding scan
-  front-scan q i [] g a = omega (arith, faced-high s g)
-  front-scan q i (e ∷ l) g a =
-      front-scan (facing working s q e) (i + 1) l (given-turn working s q e (against s e) g (given-legal (a .0))) (a .1)
-      ∙ ap (λ (n : ℕ). min n (front s l)) (turn-is q e (against s e) g (a .0))
-      ∙ swap (against s e)
-    where
-      swap : (b : Bool) → min (closer b (seen s (e .working)) (faced s q)) (front s l) ≡ min (faced s q) (closer b (seen s (e .working)) (front s l))
-      swap true = omega arith
-      swap false = refl
+front-above : (s : Bool) (n : ℕ) (l : List Entry) → n ≤ unbound → All (λ (z : Entry). against s z ≡ true → n ≤ seen s (z .working)) l → n ≤ front s l
+front-above s n [] h a = h
+front-above s n (x ∷ l) h a = more (against s x) refl (front-above s n l h (a .1))
+  where
+    more : (b : Bool) → against s x ≡ b → n ≤ front s l → n ≤ closer b (seen s (x .working)) (front s l)
+    more true e k = omega (arith, a .0 e)
+    more false e k = k
+
+seen-good : (s : Bool) (p q : ℕ) → AsGood s p q → seen s p ≤ seen s q
+unfolding seen
+seen-good false p q h = h
+seen-good true p q h = omega arith
 
 module _ {m top : ℕ} {l : List Entry} (s : Bool) (so : Sound m top l) where
   -- C IS THE NEAREST
   pub front-is : faced s (contra s l) ≡ front s l
-  unfolding nearest faced
-  front-is =
-      front-scan s (so .step) 0 0 l given-none (all-map (λ e f. f .works) l (so .entries))
-      ∙ (let h : front s l ≤ unbound = front-high s l in omega arith)
+  unfolding faced
+  front-is = go (eqb (contra s l) 0) refl
+    where
+      works : (k : ℕ) (z : Entry) → At l k z → Legal m (z .working)
+      works k z h = all-at (EntryFacts m top) l k z (so .entries) h .works
+
+      offers : (k : ℕ) (z : Entry) → At l k z → against s z ≡ true → Offered working s l (z .working)
+      offers k z h f = record { place = k; entry = z; there = h; faces = f; asks = refl; some = positive (z .working) (present (so .step) (works k z h)) }
+
+      go : (b : Bool) → eqb (contra s l) 0 ≡ b → cond b unbound (seen s (contra s l)) ≡ front s l
+      go true e =
+          let nobody : All (λ (z : Entry). against s z ≡ true → unbound ≤ seen s (z .working)) l =
+          all-of (λ (z : Entry). against s z ≡ true → unbound ≤ seen s (z .working)) l
+          (λ k z h f. absurd (contra-price-tells s l .none (eqb-true (contra s l) 0 e) (z .working) (offers k z h f))) in
+          omega (arith, front-high s l, front-above s unbound l (omega arith) nobody)
+      go false e =
+          let o = contra-price-tells s l .some (positive (contra s l) e) in
+          omega (
+            arith,
+            ap (seen s) (o .asks),
+            front-below s l (o .place) (o .entry) (o .there) (o .faces),
+            front-above s (seen s (contra s l)) l (omega (arith, seen-high s (contra s l) (omega (arith, o .asks, works (o .place) (o .entry) (o .there) .high))))
+                (all-of (λ (z : Entry). against s z ≡ true → seen s (contra s l) ≤ seen s (z .working)) l
+                (λ k z h f. seen-good s (contra s l) (z .working) (contra-price-tells s l .best (z .working) (offers k z h f)))),
+          )
 
   pub given-contra : Given m (contra s l)
   given-contra = given-nearest working s 0 l given-none (all-map (λ e f. given-legal (f .works)) l (so .entries))
 
 -- nobody faces the side: there is no C
 pub no-contra : (s : Bool) (l : List Entry) → All (λ (e : Entry). against s e ≡ false) l → contra s l ≡ 0
-unfolding nearest scan
-no-contra s l a = alone 0 0 l a
-  where
-    alone : (q i : ℕ) (l : List Entry) → All (λ (e : Entry). against s e ≡ false) l
-        → scan (λ (p : ℕ) (_ : ℕ) (e : Entry). facing working s p e) q i l ≡ q
-    alone q i [] a = refl
-    alone q i (e ∷ l) a = rw (a .0) (alone q (i + 1) l (a .1))
+no-contra s l a =
+    best-none (contra-price-tells s l) (λ q o. clash (o .faces) (all-at (λ (e : Entry). against s e ≡ false) l (o .place) (o .entry) a (o .there)))
 
 -- ---- clear of all is short of the nearest ----
 
@@ -198,27 +181,6 @@ pub cost-is : (s : Bool) (p : ℕ) → cost s p ≡ seen s p
 unfolding cost seen
 cost-is false p = refl
 cost-is true p = refl
-
-front-below : (s : Bool) (l : List Entry) (i : ℕ) (y : Entry) → At l i y → against s y ≡ true → front s l ≤ seen s (y .working)
-front-below s [] i y h a = absurd h
-front-below s (x ∷ l) zero y h a = subst (λ (z : Entry). closer (against s x) (seen s (x .working)) (front s l) ≤ seen s (z .working)) h (low (against s x) (ap (against s) h ∙ a))
-  where
-    low : (b : Bool) → b ≡ true → closer b (seen s (x .working)) (front s l) ≤ seen s (x .working)
-    low true e = omega arith
-    low false e = clash e refl
-front-below s (x ∷ l) (suc i) y h a = more (against s x) (front-below s l i y h a)
-  where
-    more : (b : Bool) → front s l ≤ seen s (y .working) → closer b (seen s (x .working)) (front s l) ≤ seen s (y .working)
-    more true k = omega arith
-    more false k = k
-
-front-above : (s : Bool) (n : ℕ) (l : List Entry) → n ≤ unbound → All (λ (z : Entry). against s z ≡ true → n ≤ seen s (z .working)) l → n ≤ front s l
-front-above s n [] h a = h
-front-above s n (x ∷ l) h a = more (against s x) refl (front-above s n l h (a .1))
-  where
-    more : (b : Bool) → against s x ≡ b → n ≤ front s l → n ≤ closer b (seen s (x .working)) (front s l)
-    more true e k = omega (arith, a .0 e)
-    more false e k = k
 
 pub best-front : {m top : ℕ} {s : Bool} {l : List Entry} {j : ℕ} {y : Entry} → Sound m top l → BestContra s false l j y
     → faced s (contra s l) ≡ seen s (y .working)
