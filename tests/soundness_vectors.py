@@ -8,8 +8,8 @@ It writes crates/checking_vectors/stdin and crates/checking_vectors/stdout.
 "Arrival") and from nothing else. Each clause is broken alone, by one and at its edges, on books that are sound otherwise;
 every such case says whether the book ought to be sound, and the model has to agree before anything is written.
 
-A book is 1,548 bytes: M, the last number given and the count, then 64 entries of 24 bytes: number, limit, quantity, working
-price and display, then a byte each for party, kind, side and pricing (0 fixed, 1 dark, 2 sliding).
+A book is 1,548 bytes: M and the last number given, then its picture: the count, and 64 entries of 24 bytes: number, limit,
+quantity, working price and display, then a byte each for party, kind, side and pricing (0 fixed, 1 dark, 2 sliding).
 """
 import copy
 import random
@@ -144,6 +144,26 @@ def random_book(rng, size=None):
         resting[-1]["quantity"] = rng.randrange(1, 100000)
     return book_of(m, max(numbers, default=0) + rng.randrange(0, 3), resting)
 
+
+# ---- the table ----
+
+def picture(book):
+    """The count and the 64 entries in bytes."""
+    return struct.pack(">I", book["count"]) + b"".join(
+        struct.pack(">IIIIIBBBB", e["number"], e["limit"], e["quantity"], e["working"], e["display"], e["party"], e["kind"], e["sell"], e["pricing"])
+        for e in book["entries"])
+
+
+def write_table(program, data, told, what):
+    """What the test program reads, and what it must print."""
+    with open(f"crates/{program}/stdin", "wb") as f:
+        f.write(b"".join(data))
+    with open(f"crates/{program}/stdout", "w") as f:
+        f.write("".join(line + "\n" for line in told))
+    print(len(told), what + ",", sum(line.startswith("sound") for line in told), "of them sound")
+
+
+# ---- cases ----
 
 cases = []
 
@@ -334,19 +354,8 @@ def main():
         value = rng.choice((e[field] + 1, max(e[field] - 1, 0), e[field] + b["m"], rng.randrange(0, top)))
         changed(b, place, None, **{field: min(value, 255) if top == 255 else value})
 
-    data, told = [], []
-    for b in cases:
-        data.append(struct.pack(">III", b["m"], b["given"], b["count"]))
-        for e in b["entries"]:
-            data.append(struct.pack(">IIIIIBBBB", e["number"], e["limit"], e["quantity"], e["working"], e["display"], e["party"], e["kind"],
-                                    e["sell"], e["pricing"]))
-        told.append(summary(b) + "\n")
-    with open("crates/checking_vectors/stdin", "wb") as f:
-        f.write(b"".join(data))
-    with open("crates/checking_vectors/stdout", "w") as f:
-        f.write("".join(told))
-    sound = sum(t.startswith("sound") for t in told)
-    print(len(cases), "books,", sound, "of them sound")
+    write_table("checking_vectors", [struct.pack(">II", b["m"], b["given"]) + picture(b) for b in cases], [summary(b) for b in cases], "books")
 
 
-main()
+if __name__ == "__main__":
+    main()

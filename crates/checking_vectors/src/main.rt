@@ -1,10 +1,12 @@
 // Puts the books that tests/soundness_vectors.py writes to the soundness test, and prints the verdict and the summary of each on a line.
-mod layout;
-
+//
+// A book comes in 1,548 bytes: the MPV and the last number given in 4 bytes each, and then the book's own (crate book_bytes).
+use book_bytes::book_of;
 use checking::Check;
 use checking::figures::has_quote;
 use libc::STDIN_FILENO;
 use libc::STDOUT_FILENO;
+use reading::number_at;
 
 fn print(text: &[u8]) {
     io::write_all(STDOUT_FILENO, text);
@@ -55,9 +57,9 @@ fn main() {
         if n < 1548 {
             return;
         }
-        let m = layout::number_at(&bytes, 0);
-        let given = layout::number_at(&bytes, 4);
-        tell(checking::check_book(layout::book_of(&bytes), m, given));
+        let m = number_at(&bytes, 0);
+        let given = number_at(&bytes, 4);
+        tell(checking::check_book(book_of(&bytes[8..]), m, given));
         told += 1;
     }
 }

@@ -2,6 +2,7 @@
 ghost use Prim.Native.Nat.{_<_, _≤_};
 ghost use lib.ListN.{length};
 use libc::STDOUT_FILENO;
+use reading::wide;
 
 pub(crate) fn print(text: &[u8]) {
     io::write_all(STDOUT_FILENO, text);
@@ -19,13 +20,6 @@ pub(crate) fn print_all(ns: &[u32]) {
         print_next(ns[i]);
         i += 1;
     }
-}
-
-// A byte as a number that sums have room in.
-pub(crate) fn wide(x: u8) -> u32
-    ensures { λ r. ⌜ r < 256 ⌝ }
-{
-    x as u32
 }
 
 pub(crate) fn print_bytes(bytes: &[u8]) {
@@ -108,14 +102,4 @@ pub(crate) fn stands(bytes: &[u8], run: &[u8], at: usize) -> bool {
         i += 1;
     }
     true
-}
-
-// The number that four bytes make.
-pub(crate) fn number(bytes: &[u8]) -> u32 {
-    if bytes.len() < 4 {
-        return 0;
-    }
-    let high = wide(bytes[0]) * 256 + wide(bytes[1]);
-    let low = wide(bytes[2]) * 256 + wide(bytes[3]);
-    high * 65536 + low
 }

@@ -2,11 +2,12 @@
 use crate::text::print;
 use crate::text::print_all;
 use crate::text::stands;
-use crate::text::wide;
 use packing::message::Event;
 use packing::message::Terms;
 use packing::report::Report;
 use packing::setup::Setup;
+use reading::number_at;
+use reading::wide;
 
 fn print_same(ok: bool, same: bool) {
     if ok & same {
@@ -212,7 +213,7 @@ fn setup_widths(n: u32) -> [u32; 3] {
 // Which values pack that have this number in one field, and small ones in the others.
 pub(crate) fn widths(part: &[u8]) {
     print(b"widths");
-    let n = crate::text::number(part);
+    let n = number_at(part, 0);
     let a = message_widths(n);
     print_all(&a);
     let b = report_widths(n);

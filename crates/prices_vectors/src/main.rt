@@ -5,7 +5,9 @@
 mod tell;
 
 use libc::STDIN_FILENO;
-ghost use Prim.Native.Nat.{_≤_};
+use reading::number_at;
+ghost use mathlib.Core.Path.{_≡_};
+ghost use Rattle.prices_vectors.specs.Question.{questionIn};
 
 // What is asked, and its figures; those that it does not use are zero.
 struct Question {
@@ -20,18 +22,9 @@ struct Question {
     h: u32,
 }
 
-fn wide(x: u8) -> u32 {
-    x as u32
-}
-
-fn number_at(bytes: &[u8; 36], at: usize) -> u32
-    requires { ⌜ at ≤ 32 ⌝ }
+fn asked_in(bytes: &[u8]) -> Question
+    ensures { λ r. ⌜ r ≡ questionIn (now (bytes .entry)) ⌝ }
 {
-    (wide(bytes[at]) << 24)
-        | ((wide(bytes[at + 1]) << 16) | ((wide(bytes[at + 2]) << 8) | wide(bytes[at + 3])))
-}
-
-fn asked_in(bytes: &[u8; 36]) -> Question {
     Question {
         ask: number_at(bytes, 0),
         a: number_at(bytes, 4),

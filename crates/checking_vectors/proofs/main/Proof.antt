@@ -23,11 +23,26 @@ read-full-requires c κs = search needs
 returns : tie.Need-returns Inv-loop μ-loop
 returns c = search needs
 
+slice-aggregate-number-at : tie.Need-slice-aggregate-number-at Inv-loop μ-loop
+slice-aggregate-number-at c = search needs
+
 number-at-requires : tie.Need-number-at-requires Inv-loop μ-loop
 number-at-requires c κs = search needs
 
+slice-aggregate-number-at-2 : tie.Need-slice-aggregate-number-at-2 Inv-loop μ-loop
+slice-aggregate-number-at-2 c = search needs
+
 number-at-requires-2 : tie.Need-number-at-requires-2 Inv-loop μ-loop
 number-at-requires-2 c κs = search needs
+
+sub-book-of : tie.Need-sub-book-of Inv-loop μ-loop
+sub-book-of c = search needs
+
+part-book-of-start : tie.Need-part-book-of-start Inv-loop μ-loop
+part-book-of-start c = search needs
+
+part-book-of-end : tie.Need-part-book-of-end Inv-loop μ-loop
+part-book-of-end c = search needs
 
 book-of-requires : tie.Need-book-of-requires Inv-loop μ-loop
 book-of-requires c κs = search needs
@@ -60,8 +75,13 @@ main-spec =
     slice-aggregate-read-full
     read-full-requires
     returns
+    slice-aggregate-number-at
     number-at-requires
+    slice-aggregate-number-at-2
     number-at-requires-2
+    sub-book-of
+    part-book-of-start
+    part-book-of-end
     book-of-requires
     check-book-requires
     tell-requires
