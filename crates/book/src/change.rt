@@ -4,6 +4,7 @@ use crate::Entry;
 use crate::entries::zero_entry;
 ghost use mathlib.Core.Path.{_≡_};
 ghost use mathlib.Core.List.{[]};
+ghost use lib.ListN.{set};
 ghost use Rattle.lists.specs.Places.{without, requeue};
 ghost use Rattle.book.specs.Shape.{entriesOf, bookOf, WellFormed, Place, TwoPlaces, Space};
 ghost use Rattle.book.specs.Change.{post, hit, hitBoth};
@@ -54,17 +55,26 @@ pub fn removed(b: Book, i: usize) -> Book
     c
 }
 
+// An entry with contracts left stands where it stood: posting and a change of price alone put it last.
+fn standing(mut b: Book, i: usize, e: Entry) -> Book
+    requires { ⌜ Place b i ⌝ }
+    ensures { λ r. ⌜ r ≡ record { entries = set (b .entries) i e; count = b .count } ⌝ }
+{
+    b.entries[i] = e;
+    b
+}
+
 // So many contracts of the entry at a place are traded away.
-pub fn taken(mut b: Book, i: usize, quantity: u32) -> Book
+pub fn taken(b: Book, i: usize, quantity: u32) -> Book
     requires { ⌜ Place b i ⌝ }
     ensures { λ r. ⌜ r ≡ bookOf (hit i quantity (entriesOf b)) ⌝ }
 {
-    let rests = b.entries[i].quantity;
-    if rests <= quantity {
+    let mut e = b.entries[i];
+    if e.quantity <= quantity {
         return removed(b, i);
     }
-    b.entries[i].quantity = rests - quantity;
-    b
+    e.quantity = e.quantity - quantity;
+    standing(b, i, e)
 }
 
 // Of both parties to a trade.

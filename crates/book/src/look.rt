@@ -127,8 +127,9 @@ pub fn contra_price(b: Book, sell: bool) -> u32
 fn national_turn(sell: bool, q: u32, e: Entry) -> u32
     ensures { λ r. ⌜ r ≡ facing display sell q e ⌝ }
 {
+    let shown = display_of(e);
     if is_against(sell, e) {
-        return nearer_of(sell, q, display_of(e));
+        return nearer_of(sell, q, shown);
     }
     q
 }

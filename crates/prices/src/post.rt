@@ -8,7 +8,7 @@ ghost use mathlib.Core.Path.{_≡_};
 ghost use mathlib.Core.Bool.{true};
 ghost use Prim.Native.Nat.{_≤_};
 ghost use Rattle.prices.specs.Step.{mpv};
-ghost use Rattle.prices.specs.Post.{bars20, bars23, bars22, stopped};
+ghost use Rattle.prices.specs.Post.{bars20, bars23, bars22, firstStop, stopped};
 
 // It would lock or cross the away price.
 pub fn is_locking(kind: u32, sell: bool, limit: u32, away: u32) -> bool
@@ -32,6 +32,25 @@ pub fn is_too_distant(m: u32, k: u32, kind: u32, sell: bool, limit: u32, display
     is_sliding(kind) & (most_distant(m, k) < distance(sell, limit, display))
 }
 
+// The reason of the first that applies, or 0.
+fn first_stop(locking: bool, hidden: bool, unshowable: bool, distant: bool) -> u32
+    ensures { λ r. ⌜ r ≡ firstStop locking hidden unshowable distant ⌝ }
+{
+    if locking {
+        return 20;
+    }
+    if hidden {
+        return 21;
+    }
+    if unshowable {
+        return 23;
+    }
+    if distant {
+        return 22;
+    }
+    0
+}
+
 // The reason why what is left may not rest, or 0. Whether undisplayed interest stands in its way is the book's to say.
 pub fn stop_of(
     m: u32,
@@ -46,17 +65,8 @@ pub fn stop_of(
     requires { ⌜ (mpv m ≡ true) × (k ≤ 100) ⌝ }
     ensures { λ r. ⌜ r ≡ stopped m k kind sell limit away hidden display ⌝ }
 {
-    if is_locking(kind, sell, limit, away) {
-        return 20;
-    }
-    if hidden {
-        return 21;
-    }
-    if is_unshowable(m, kind, sell, display) {
-        return 23;
-    }
-    if is_too_distant(m, k, kind, sell, limit, display) {
-        return 22;
-    }
-    0
+    let locking = is_locking(kind, sell, limit, away);
+    let unshowable = is_unshowable(m, kind, sell, display);
+    let distant = is_too_distant(m, k, kind, sell, limit, display);
+    first_stop(locking, hidden, unshowable, distant)
 }

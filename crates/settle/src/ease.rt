@@ -22,11 +22,12 @@ ghost use Prim.Native.Nat.{_<_};
 ghost use Rattle.lists.specs.Choose.{found};
 ghost use Rattle.lists.specs.Places.{requeue};
 ghost use Rattle.lists.specs.Run.{go};
+ghost use Rattle.book.specs.Entries.{priced};
 ghost use Rattle.book.specs.Shape.{entriesOf, WellFormed};
 ghost use Rattle.book.specs.Look.{lowest, rankOf};
 ghost use Rattle.settling.specs.Tell.{repriced as Tell·repriced};
 ghost use Rattle.settling.specs.Stage.{Staged, alone};
-ghost use Rattle.settling.specs.Settle.{easing, easeAt, eased};
+ghost use Rattle.settling.specs.Settle.{easing, easedPrices, easeAt, eased};
 ghost use Rattle.settle.specs.Turns.{entryIn, Turn, EaseTurn, Easeable};
 
 // By entry number: the key of an entry that passes, and one above all keys for the others.
@@ -80,15 +81,22 @@ pub fn move_to(b: Book, i: usize, e: Entry, room: &mut [u8], n: &mut usize) -> B
     requeued(b, i, e)
 }
 
+// The entry drops to the away price or to what it shows, which stays where it is.
+fn eased_entry(market: Market, e: Entry) -> Entry
+    ensures { λ r. ⌜ r ≡ priced (easedPrices market e) e ⌝ }
+{
+    let display = display_of(e);
+    let working = eased_to(e.sell, away_of(market, e.sell), display, e.working);
+    repriced(e, display, working)
+}
+
 // The entry at a place is eased.
 fn ease_at(b: Book, market: Market, i: usize, room: &mut [u8], n: &mut usize) -> Book
     requires { ⌜ EaseTurn market b i (now room) (now n) ⌝ }
     ensures { λ r. ⌜ Staged (alone (entriesOf b) (easeAt market (entriesOf b) (found i (entryIn b i)))) (now (room .entry)) (now (n .entry)) r (now (room .exit)) (now (n .exit)) ⌝ }
 {
-    let e = b.entries[i];
-    let display = display_of(e);
-    let working = eased_to(e.sell, away_of(market, e.sell), display, e.working);
-    move_to(b, i, repriced(e, display, working), room, n)
+    let e = eased_entry(market, b.entries[i]);
+    move_to(b, i, e, room, n)
 }
 
 // All that are to be eased, in entry order.
