@@ -15,6 +15,8 @@ use Rattle.packing.specs.Room.{written}
 use Rattle.book.specs.declared.Entry.{Entry}
 use Rattle.book.specs.Entries.{quote}
 use Rattle.book.specs.declared.Book.{Book}
+use Rattle.book.specs.declared.Rank.{Rank}
+use Rattle.book.specs.declared.Rank.the-variants.{At, Nowhere}
 use Rattle.book.specs.Shape.{zeroEntry, entriesOf, WellFormed, Place}
 use Rattle.book.specs.Look.{entryOf, quoteIn, lowest}
 use Rattle.settling.specs.Tell.{cancelled}
@@ -29,6 +31,15 @@ cut why l (found i e) = record { final = without i l; records = cancelled why e 
 abbrev pub cutAt : ℕ → List Entry → ℕ → Ran (List Entry) Report
 cutAt why l i = record { final = without i l; records = cancelled why (getD l i zeroEntry) ∷ [] }
 
+-- what stands at a rank goes; nothing happens where there is none
+abbrev pub cutRank : ℕ → List Entry → Rank → Ran (List Entry) Report
+cutRank why l Nowhere = still l
+cutRank why l (At i) = cutAt why l i
+
+abbrev pub Inside : Book → Rank → Type 0
+Inside b Nowhere = Unit {0}
+Inside b (At i) = Place b i
+
 -- what the functions ask of their callers: a well-formed book, with room for the stage's reports; and for `cut_at` a place that is used
 pub record Asks (x : Ran (List Entry) Report) (b : Book) (room : List ℕ) (n : ℕ) : Type 0 where
   pub well : WellFormed b
@@ -37,6 +48,11 @@ pub record Asks (x : Ran (List Entry) Report) (b : Book) (room : List ℕ) (n : 
 pub record Cuts (why : ℕ) (b : Book) (i : ℕ) (room : List ℕ) (n : ℕ) : Type 0 where
   pub place : Place b i
   pub roomy : Roomy room n (cutAt why (entriesOf b) i .records)
+
+pub record CutsRank (why : ℕ) (b : Book) (rank : Rank) (room : List ℕ) (n : ℕ) : Type 0 where
+  pub well : WellFormed b
+  pub inside : Inside b rank
+  pub roomy : Roomy room n (cutRank why (entriesOf b) rank .records)
 
 -- a maker's quote on a side
 abbrev pub cutQuote : ℕ → ℕ → Bool → List Entry → Ran (List Entry) Report

@@ -1,6 +1,7 @@
 // Arrival of a quote or an order.
 use crate::Terms;
 use crate::cancel::cut_quote;
+use crate::cancel::cut_rank;
 use crate::post::market_of;
 use crate::post::prices_of;
 use crate::post::rest_of;
@@ -10,9 +11,11 @@ use crate::take::next_trade;
 use crate::take::take_all;
 use book::Book;
 use book::Entry;
+use book::Rank;
 use book::change::posted as post_entry;
 use book::entries::is_quote;
 use book::entries::kind_of;
+use book::find::find_quote;
 use book::look::national_price;
 use prices::Guard;
 use prices::aims::is_minding;
@@ -24,7 +27,8 @@ use settle::tell::tell_rejected;
 use settle::tell::tell_rested;
 ghost use mathlib.Core.Path.{_≡_};
 ghost use mathlib.Core.Bool.{not};
-ghost use Rattle.book.specs.Shape.{entriesOf};
+ghost use Rattle.book.specs.Shape.{entriesOf, WellFormed};
+ghost use Rattle.book.specs.Look.{rankOf, quoteIn};
 ghost use Rattle.settling.specs.Stage.{Staged};
 ghost use Rattle.arrival.specs.Terms.{guardOf, marketOf};
 ghost use Rattle.arrival.specs.Take.{took};
@@ -139,6 +143,14 @@ fn remainder_of(e: Entry, left: u32) -> Entry
     rest
 }
 
+// The maker's quote on the opposite side.
+fn opposite_quote(b: Book, e: Entry) -> Rank
+    requires { ⌜ WellFormed b ⌝ }
+    ensures { λ r. ⌜ r ≡ rankOf (quoteIn (e .party) (not (e .sell)) (entriesOf b)) ⌝ }
+{
+    find_quote(b, e.party, !e.sell)
+}
+
 // What is left is cancelled, and with it the maker's opposite quote.
 fn cancel_rest(b: Book, e: Entry, left: u32, why: u32, room: &mut [u8], n: &mut usize) -> Book
     requires { ⌜ Asks (cancelledRest why e left (entriesOf b)) b (now room) (now n) ⌝ }
@@ -147,7 +159,8 @@ fn cancel_rest(b: Book, e: Entry, left: u32, why: u32, room: &mut [u8], n: &mut 
     let report = tell_cancelled(why, remainder_of(e, left));
     put(room, n, report);
     if is_quote(e) {
-        return cut_quote(b, e.party, !e.sell, 29, room, n);
+        let rank = opposite_quote(b, e);
+        return cut_rank(b, rank, 29, room, n);
     }
     b
 }

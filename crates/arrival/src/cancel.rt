@@ -7,7 +7,7 @@ use settle::room::put;
 use settle::tell::tell_cancelled;
 ghost use Rattle.book.specs.Shape.{entriesOf};
 ghost use Rattle.settling.specs.Stage.{Staged};
-ghost use Rattle.arrival.specs.Cancel.{cutAt, cutQuote, Cuts, Asks};
+ghost use Rattle.arrival.specs.Cancel.{cutAt, cutRank, cutQuote, Cuts, CutsRank, Asks};
 
 // The entry at a place goes.
 pub fn cut_at(b: Book, i: usize, why: u32, room: &mut [u8], n: &mut usize) -> Book
@@ -19,14 +19,22 @@ pub fn cut_at(b: Book, i: usize, why: u32, room: &mut [u8], n: &mut usize) -> Bo
     removed(b, i)
 }
 
+// The entry at a rank goes, if there is one.
+pub fn cut_rank(b: Book, rank: Rank, why: u32, room: &mut [u8], n: &mut usize) -> Book
+    requires { ⌜ CutsRank why b rank (now room) (now n) ⌝ }
+    ensures { λ r. ⌜ Staged (cutRank why (entriesOf b) rank) (now (room .entry)) (now (n .entry)) r (now (room .exit)) (now (n .exit)) ⌝ }
+{
+    let Rank::At(i) = rank else {
+        return b;
+    };
+    cut_at(b, i, why, room, n)
+}
+
 // A maker's quote on a side goes, if there is one.
 pub fn cut_quote(b: Book, party: u8, sell: bool, why: u32, room: &mut [u8], n: &mut usize) -> Book
     requires { ⌜ Asks (cutQuote why party sell (entriesOf b)) b (now room) (now n) ⌝ }
     ensures { λ r. ⌜ Staged (cutQuote why party sell (entriesOf b)) (now (room .entry)) (now (n .entry)) r (now (room .exit)) (now (n .exit)) ⌝ }
 {
     let rank = find_quote(b, party, sell);
-    let Rank::At(i) = rank else {
-        return b;
-    };
-    cut_at(b, i, why, room, n)
+    cut_rank(b, rank, why, room, n)
 }

@@ -11,10 +11,10 @@ use prices::aims::is_minding;
 use prices::side::away_of;
 use prices::side::is_reaching;
 use settle::room::put;
+use settle::stir::lesser;
 use settle::tell::tell_traded;
 ghost use mathlib.Core.Path.{_≡_};
 ghost use mathlib.Core.Bool.{false};
-ghost use Prim.Native.Nat.{min};
 ghost use Rattle.book.specs.Shape.{WellFormed};
 ghost use Rattle.arrival.specs.Take.{bound, shownOnly, taken};
 ghost use Rattle.arrival.specs.Asks.{Takes, TookAs, takingOf, NextTrade};
@@ -30,12 +30,6 @@ pub fn is_shown_only(e: Entry) -> bool
     ensures { λ r. ⌜ r ≡ shownOnly e ⌝ }
 {
     e.kind == 2
-}
-
-pub fn smaller(a: u32, b: u32) -> u32
-    ensures { λ r. ⌜ r ≡ min a b ⌝ }
-{
-    if a < b { a } else { b }
 }
 
 // A trade to come: with the entry at a place, for so many contracts.
@@ -75,7 +69,7 @@ pub fn next_trade(b: Book, e: Entry, cap: u32, left: u32) -> Trade
         going: true,
         at,
         entry,
-        quantity: smaller(left, entry.quantity),
+        quantity: lesser(left, entry.quantity),
     }
 }
 

@@ -1,4 +1,7 @@
 use mathlib.Core.Path.{sym, ap, _∙_}
+use mathlib.Core.Bool.{not}
+use native.Mathlib.Omega.{arith}
+use Rattle.arrival.proofs.CancelLaws.{asks-reason, quote-cuts, quote-cut}
 use Rattle.arrival.proofs.EnterLaws.{cancel-room, other-asks, other-done, alone-done}
 use borrow.Author.Needs.{needs}
 use Rattle.arrival.proofs.arrive.cancel_rest.Statement.{statement}
@@ -16,14 +19,17 @@ put-requires c κs = let s = c .before .before .before .before .before in cancel
 is-quote-requires : tie.Need-is-quote-requires
 is-quote-requires c κs = search needs
 
-cut-quote-requires : tie.Need-cut-quote-requires
-cut-quote-requires c κs = let s = c .before .before .before .before .before .before .before .before .before .before .before .before .before in other-asks (s .args .why) (s .args .e) (s .args .left) (s .pre) _ _ (c .before .before .before .before .before .before .before .before .before .before .before .remainder-of .ensures) (c .before .before .before .before .before .before .before .before .before .before .tell-cancelled .ensures) (c .before .before .before .before .before .before .before .put .ensures) (sym (c .before .before .before .before .is-quote .ensures) ∙ c .before .before .before .if1 .taken)
+opposite-quote-requires : tie.Need-opposite-quote-requires
+opposite-quote-requires c κs = search needs
+
+cut-rank-requires : tie.Need-cut-rank-requires
+cut-rank-requires c κs = let s = c .before .before .before .before .before .before .before .before .before .before .before .before .before in let e = s .args .e in quote-cuts _ (e .party) (not (e .sell)) _ (c .before .before .opposite-quote .ensures) (asks-reason 29 (e .party) (not (e .sell)) _ (omega arith) (other-asks (s .args .why) (s .args .e) (s .args .left) (s .pre) _ _ (c .before .before .before .before .before .before .before .before .before .before .before .remainder-of .ensures) (c .before .before .before .before .before .before .before .before .before .before .tell-cancelled .ensures) (c .before .before .before .before .before .before .before .put .ensures) (sym (c .before .before .before .before .is-quote .ensures) ∙ c .before .before .before .if1 .taken)))
 
 same-length : tie.Need-same-length
 same-length c = search needs
 
 returns : tie.Need-returns
-returns c = let s = c .before .before .before .before .before .before .before .before .before .before .before .before .before .before .before .before in other-done (s .args .why) (s .args .e) (s .args .left) (s .pre) _ _ (c .before .before .before .before .before .before .before .before .before .before .before .before .before .before .remainder-of .ensures) (c .before .before .before .before .before .before .before .before .before .before .before .before .before .tell-cancelled .ensures) (c .before .before .before .before .before .before .before .before .before .before .put .ensures) (sym (c .before .before .before .before .before .before .before .is-quote .ensures) ∙ c .before .before .before .before .before .before .if1 .taken) (c .before .before .cut-quote .ensures)
+returns c = let s = c .before .before .before .before .before .before .before .before .before .before .before .before .before .before .before .before in let e = s .args .e in other-done (s .args .why) (s .args .e) (s .args .left) (s .pre) _ _ (c .before .before .before .before .before .before .before .before .before .before .before .before .before .before .remainder-of .ensures) (c .before .before .before .before .before .before .before .before .before .before .before .before .before .tell-cancelled .ensures) (c .before .before .before .before .before .before .before .before .before .before .put .ensures) (sym (c .before .before .before .before .before .before .before .is-quote .ensures) ∙ c .before .before .before .before .before .before .if1 .taken) (quote-cut 29 (e .party) (not (e .sell)) _ (c .before .before .before .before .before .opposite-quote .ensures) (s .pre .well) (c .before .before .cut-rank .ensures))
 
 same-length-2 : tie.Need-same-length-2
 same-length-2 c = search needs
@@ -39,7 +45,8 @@ cancel-rest-spec =
     tell-cancelled-requires
     put-requires
     is-quote-requires
-    cut-quote-requires
+    opposite-quote-requires
+    cut-rank-requires
     same-length
     returns
     same-length-2

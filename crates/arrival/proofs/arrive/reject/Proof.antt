@@ -1,3 +1,6 @@
+use mathlib.Core.Bool.{true, false}
+use native.Mathlib.Omega.{arith}
+use Rattle.arrival.proofs.CancelLaws.{asks-reason}
 use Rattle.arrival.proofs.EnterLaws.{reject-room, both-first, both-second, both-done, one-first, one-done}
 use borrow.Author.Needs.{needs}
 use Rattle.arrival.proofs.arrive.reject.Statement.{statement}
@@ -10,10 +13,10 @@ put-requires : tie.Need-put-requires
 put-requires c κs = let s = c .before .before .before .before in reject-room (s .args .why) (s .args .e) (s .pre) _ (c .before .before .tell-rejected .ensures)
 
 cut-quote-requires : tie.Need-cut-quote-requires
-cut-quote-requires c κs = let s = c .before .before .before .before .before .before .before .before .before .before in both-first (s .args .why) (s .args .e) (s .pre) _ (c .before .before .before .before .before .before .before .before .tell-rejected .ensures) (c .before .before .before .before .before .put .ensures) (c .before .before .if1 .taken)
+cut-quote-requires c κs = let s = c .before .before .before .before .before .before .before .before .before .before in let e = s .args .e in asks-reason 30 (e .party) false _ (omega arith) (both-first (s .args .why) (s .args .e) (s .pre) _ (c .before .before .before .before .before .before .before .before .tell-rejected .ensures) (c .before .before .before .before .before .put .ensures) (c .before .before .if1 .taken))
 
 cut-quote-requires-2 : tie.Need-cut-quote-requires-2
-cut-quote-requires-2 c κs = let s = c .before .before .before .before .before .before .before .before .before .before .before .before .before .before .before in both-second (s .args .why) (s .args .e) (s .pre) _ (c .before .before .before .before .before .before .before .before .before .before .before .before .before .tell-rejected .ensures) (c .before .before .before .before .before .before .before .before .before .before .put .ensures) (c .before .before .before .before .before .before .before .if1 .taken) (c .before .before .before .before .cut-quote .ensures)
+cut-quote-requires-2 c κs = let s = c .before .before .before .before .before .before .before .before .before .before .before .before .before .before .before in let e = s .args .e in asks-reason 30 (e .party) true _ (omega arith) (both-second (s .args .why) (s .args .e) (s .pre) _ (c .before .before .before .before .before .before .before .before .before .before .before .before .before .tell-rejected .ensures) (c .before .before .before .before .before .before .before .before .before .before .put .ensures) (c .before .before .before .before .before .before .before .if1 .taken) (c .before .before .before .before .cut-quote .ensures))
 
 same-length : tie.Need-same-length
 same-length c = search needs
@@ -22,7 +25,7 @@ returns : tie.Need-returns
 returns c = let s = c .before .before .before .before .before .before .before .before .before .before .before .before .before .before .before .before .before .before in both-done (s .args .why) (s .args .e) (s .pre) _ (c .before .before .before .before .before .before .before .before .before .before .before .before .before .before .before .before .tell-rejected .ensures) (c .before .before .before .before .before .before .before .before .before .before .before .before .before .put .ensures) (c .before .before .before .before .before .before .before .before .before .before .if1 .taken) (c .before .before .before .before .before .before .before .cut-quote .ensures) (c .before .before .cut-quote2 .ensures)
 
 cut-quote-requires-3 : tie.Need-cut-quote-requires-3
-cut-quote-requires-3 c κs = let s = c .before .before .before .before .before .before .before .before .before .before in one-first (s .args .why) (s .args .e) (s .pre) _ (c .before .before .before .before .before .before .before .before .tell-rejected .ensures) (c .before .before .before .before .before .put .ensures) (c .before .before .if1 .left)
+cut-quote-requires-3 c κs = let s = c .before .before .before .before .before .before .before .before .before .before in let e = s .args .e in asks-reason 30 (e .party) (e .sell) _ (omega arith) (one-first (s .args .why) (s .args .e) (s .pre) _ (c .before .before .before .before .before .before .before .before .tell-rejected .ensures) (c .before .before .before .before .before .put .ensures) (c .before .before .if1 .left))
 
 same-length-2 : tie.Need-same-length-2
 same-length-2 c = search needs

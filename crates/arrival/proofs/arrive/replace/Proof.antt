@@ -1,3 +1,5 @@
+use native.Mathlib.Omega.{arith}
+use Rattle.arrival.proofs.CancelLaws.{asks-reason}
 use mathlib.Core.List.{List}
 use Rattle.book.specs.declared.Entry.{Entry}
 use Rattle.packing.specs.declared.report.Report.{Report}
@@ -15,7 +17,7 @@ is-quote-requires : tie.Need-is-quote-requires
 is-quote-requires c κs = search needs
 
 cut-quote-requires : tie.Need-cut-quote-requires
-cut-quote-requires c κs = let s = c .before .before .before .before .before in let e = s .args .e in record { well = s .pre .well; roomy = roomy-as (ap (λ (x : Ran (List Entry) Report). x .records) (sym (of-quote e (cutQuote 27 (e .party) (e .sell)) (entriesOf (s .args .b)) (sym (c .before .before .before .is-quote .ensures) ∙ c .before .before .if1 .taken)))) (s .pre .roomy) }
+cut-quote-requires c κs = let s = c .before .before .before .before .before in let e = s .args .e in asks-reason 27 (e .party) (e .sell) _ (omega arith) (record { well = s .pre .well; roomy = roomy-as (ap (λ (x : Ran (List Entry) Report). x .records) (sym (of-quote e (cutQuote 27 (e .party) (e .sell)) (entriesOf (s .args .b)) (sym (c .before .before .before .is-quote .ensures) ∙ c .before .before .if1 .taken)))) (s .pre .roomy) })
 
 same-length : tie.Need-same-length
 same-length c = search needs

@@ -47,11 +47,11 @@ no-trade-requires-2 c κs = search needs
 returns-2 : tie.Need-returns-2
 returns-2 c = let s = c .before .before .before .before .before .before .before .before .before in let l = entriesOf (s .args .t1) in let e = s .args .e in let t = takingOf (s .args .left) (s .args .t1) in let b = bestContra (e .sell) (shownOnly e) l in let r = rank-at (eligible (e .sell) (shownOnly e)) (priority (e .sell)) l b (c .before .before .before .before .before .best .given .0 .0) (best-tells (e .sell) (shownOnly e) l) (sym (c .before .before .before .before .before .before .before .best-contra .ensures ∙ ap (λ (h : Bool). rankOf (bestContra (e .sell) h l)) (c .before .before .before .before .before .before .before .before .is-shown-only .ensures)) ∙ c .before .before .before .before .before .best .given .1) in let i = c .before .before .before .before .before .best .given .0 .0 in let at = entry-at (s .args .t1) i zeroEntry (omega (arith, r .inside, length-entries (s .args .t1) (s .pre))) in out-of-bound (s .args .cap) e t i r (c .no-trade2 .result) (rw (at, ← c .before .before .is-reaching .ensures) (c .before .if1 .taken)) (c .no-trade2 .ensures .0) (c .no-trade2 .ensures .1)
 
-smaller-requires : tie.Need-smaller-requires
-smaller-requires c κs = search needs
+lesser-requires : tie.Need-lesser-requires
+lesser-requires c κs = search needs
 
 returns-3 : tie.Need-returns-3
-returns-3 c = let s = c .before .before .before .before .before .before .before .before .before in let l = entriesOf (s .args .t1) in let e = s .args .e in let t = takingOf (s .args .left) (s .args .t1) in let b = bestContra (e .sell) (shownOnly e) l in let r = rank-at (eligible (e .sell) (shownOnly e)) (priority (e .sell)) l b (c .before .before .before .before .before .best .given .0 .0) (best-tells (e .sell) (shownOnly e) l) (sym (c .before .before .before .before .before .before .before .best-contra .ensures ∙ ap (λ (h : Bool). rankOf (bestContra (e .sell) h l)) (c .before .before .before .before .before .before .before .before .is-shown-only .ensures)) ∙ c .before .before .before .before .before .best .given .1) in let i = c .before .before .before .before .before .best .given .0 .0 in let at = entry-at (s .args .t1) i zeroEntry (omega (arith, r .inside, length-entries (s .args .t1) (s .pre))) in in-bound (s .args .cap) e t i r (getD (s .args .t1 .entries) i zeroEntry) (c .smaller .result) (sym at) (c .smaller .ensures) (rw (← c .before .before .is-reaching .ensures) (c .before .if1 .left))
+returns-3 c = let s = c .before .before .before .before .before .before .before .before .before in let l = entriesOf (s .args .t1) in let e = s .args .e in let t = takingOf (s .args .left) (s .args .t1) in let b = bestContra (e .sell) (shownOnly e) l in let r = rank-at (eligible (e .sell) (shownOnly e)) (priority (e .sell)) l b (c .before .before .before .before .before .best .given .0 .0) (best-tells (e .sell) (shownOnly e) l) (sym (c .before .before .before .before .before .before .before .best-contra .ensures ∙ ap (λ (h : Bool). rankOf (bestContra (e .sell) h l)) (c .before .before .before .before .before .before .before .before .is-shown-only .ensures)) ∙ c .before .before .before .before .before .best .given .1) in let i = c .before .before .before .before .before .best .given .0 .0 in let at = entry-at (s .args .t1) i zeroEntry (omega (arith, r .inside, length-entries (s .args .t1) (s .pre))) in in-bound (s .args .cap) e t i r (getD (s .args .t1 .entries) i zeroEntry) (c .lesser .result) (sym at) (c .lesser .ensures) (rw (← c .before .before .is-reaching .ensures) (c .before .if1 .left))
 
 pub next-trade-spec : {M : Type 1} → statement M
 next-trade-spec =
@@ -68,5 +68,5 @@ next-trade-spec =
     is-reaching-requires
     no-trade-requires-2
     returns-2
-    smaller-requires
+    lesser-requires
     returns-3)
