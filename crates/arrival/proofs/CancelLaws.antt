@@ -1,4 +1,4 @@
--- What a search found, by its rank, is what stands there; what that makes of cancelling it; and that a cancellation for another reason asks no more.
+-- Cancelling what a search found, by its rank; and that a cancellation for another reason asks no more.
 -- Assumes nothing.
 use Prim.Native.Nat.{ℕ, _<_}
 use mathlib.Core.Path.{_≡_, refl, sym, ap, _∙_}
@@ -27,39 +27,9 @@ use Rattle.book.proofs.LookLaws.{quote-tells}
 use Rattle.settling.specs.Tell.{cancelled}
 use Rattle.settling.specs.Stage.{Roomy, Staged}
 use Rattle.arrival.specs.Cancel.{cut, cutAt, cutRank, Inside, cutQuote, Asks, CutsRank}
-use Rattle.arrival.proofs.StageLaws.{staged-as}
+use Rattle.settling.proofs.StageLaws.{staged-as}
 
-pub rank-nowhere : (f : Found Entry) → rankOf f ≡ Nowhere → f ≡ nowhere
-rank-nowhere nowhere e = refl
-rank-nowhere (found i x) e = absurd (let z : _≡_ {A = ℕ} 0 1 = cc in omega arith)
-
-pub record Ranked (l : List Entry) (f : Found Entry) (i : ℕ) : Type 0 where
-  pub inside : i < length l
-  pub there : f ≡ found i (getD l i zeroEntry)
-
-pub rank-at : (test : Entry → Bool) (key : Entry → ℕ) (l : List Entry) (f : Found Entry) (i : ℕ) → Tells test key l f → rankOf f ≡ AtRank i → Ranked l f i
-rank-at test key l nowhere i t e = absurd (let z : _≡_ {A = ℕ} 0 1 = cc in omega arith)
-rank-at test key l (found j x) i t e =
-    let same : j ≡ i = cc in
-    let inside : i < length l = rw same at (at-inside l j x (t .there)) in
-    record {
-      inside = inside;
-      there = rw (same, at-same l i x (getD l i zeroEntry) (rw same at (t .there)) (at-getD l i zeroEntry inside));
-    }
-
--- in a book
-pub ranked-place : (b : Book) (f : Found Entry) (i : ℕ) → WellFormed b → Ranked (entriesOf b) f i → Place b i
-ranked-place b f i w r = record { well = w; inside = omega (arith, r .inside, length-entries b w) }
-
-pub cut-nowhere : (why : ℕ) (l : List Entry) (f : Found Entry) → f ≡ nowhere → still l ≡ cut why l f
-unfolding cut
-cut-nowhere why l f e = rw e
-
-pub cut-there : (why : ℕ) (l : List Entry) (f : Found Entry) (i : ℕ) → Ranked l f i → cutAt why l i ≡ cut why l f
-unfolding cut
-cut-there why l f i r = rw (r .there)
-
--- ---- the same by its rank ----
+-- ---- what a search found goes, by its rank ----
 
 module _ (test : Entry → Bool) (key : Entry → ℕ) (b : Book) (w : WellFormed b) where
   rank-inside : (f : Found Entry) (r : Rank) → Tells test key (entriesOf b) f → r ≡ rankOf f → Inside b r

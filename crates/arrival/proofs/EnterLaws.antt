@@ -31,7 +31,7 @@ use Rattle.book.specs.Entries.{quote, display, shownAs}
 use Rattle.book.specs.Look.{national}
 use Rattle.book.specs.Shape.{entriesOf, bookOf, WellFormed, Space}
 use Rattle.book.specs.Change.{post}
-use Rattle.book.proofs.ShapeLaws.{length-entries, book-of-entries, entries-of-book, holds}
+use Rattle.book.proofs.ShapeLaws.{length-entries, book-of-entries, fits-64, entries-of-book, holds}
 use Rattle.book.proofs.ChangeLaws.{post-fits}
 use Rattle.sound.proofs.Facts.{EntryFacts, PricedAs, Sound}
 use Rattle.sound.proofs.FrontLaws.{given-nearest, given-contra}
@@ -48,7 +48,7 @@ use Rattle.arrival.specs.Take.{Taking, bound, nextTake, chances, taken, 
 use Rattle.arrival.specs.Post.{pricesOf, resting, stopFor, Posts}
 use Rattle.arrival.specs.Arrive.{told, ofQuotes, bothQuotes, rejectedBy, replaced, posted, remainder, cancelledRest, finished, entered, noneTraded, stopsAtOnce, protectionFor, orElse, rejection, arrivedAs, arrived}
 use Rattle.arrival.specs.Asks.{Arriving, Enters, Arrives, Takes, TakesOn, TookAs, takingOf, tradeAs, NextTrade, Rests, Finishes}
-use Rattle.arrival.proofs.StageLaws.{roomy-first, staged-list, staged-then, staged-room, staged-none, staged-as, roomy-as}
+use Rattle.settling.proofs.StageLaws.{roomy-first, staged-list, staged-then, staged-room, staged-none, staged-as, staged-go, roomy-as}
 use Rattle.arrival.proofs.TakeLaws.{take-falls, took-length, took-sound}
 use Rattle.arrival.proofs.ArriveKeeps.{goesOn, replaced-stage}
 
@@ -173,12 +173,7 @@ module _ (t : Terms) (e : Entry) (l : List Entry) where
 
 pub told-staged : {b : Book} {room room′ : List ℕ} {n n′ : ℕ} (r s : Report) → s ≡ r → WellFormed b → Put room n s room′ n′
     → Staged (told r (entriesOf b)) room n b room′ n′
-told-staged {b} {room} {room′} {n} r s q w p = record {
-  book = book-of-entries b w;
-  well = w;
-  bytes = p .bytes ∙ ap (λ (x : Report). written room n (x ∷ [])) q;
-  count = p .count;
-}
+told-staged {b} r s q w p = staged-go (entriesOf b) (entriesOf b) q p (book-of-entries b w) (fits-64 b w)
 
 -- the first stage asks for its room, and the next for what is left of it
 pub first-room : {room : List ℕ} {n : ℕ} (r s : Report) (l : List Entry) (f : List Entry → Ran (List Entry) Report) → s ≡ r
@@ -254,12 +249,10 @@ module _ {t : Terms} {e : Entry} {b : Book} {left : ℕ} {room : List ℕ} {n : 
 
   pub rest-done : {room′ : List ℕ} {n′ : ℕ} {c : Book} → Put room n s room′ n′ → c ≡ bookOf (post x (entriesOf b))
       → Staged (posted t e left (entriesOf b)) room n c room′ n′
-  rest-done p q = record {
-    book = q ∙ ap (λ (y : Entry). bookOf (post y (entriesOf b))) is;
-    well = holds q (post-fits b x (record { well = a .posts .well; space = a .space })) .well;
-    bytes = p .bytes ∙ ap (λ (r : Report). written room n (r ∷ [])) (tells ∙ ap rested is);
-    count = p .count;
-  }
+  rest-done p q =
+      let free : Space b = record { well = a .posts .well; space = a .space } in
+      staged-go (entriesOf b) (post (resting e left (pricesOf t e (entriesOf b))) (entriesOf b)) (tells ∙ ap rested is) p
+      (q ∙ ap (λ (y : Entry). bookOf (post y (entriesOf b))) is) (post-fits b (resting e left (pricesOf t e (entriesOf b))) free)
 
 -- ---- what is left is cancelled ----
 

@@ -48,7 +48,7 @@ use Rattle.arrival.specs.Take.{Taking, bound, nextTake, chances, taken, 
 use Rattle.arrival.specs.Post.{pricesOf, resting, stopFor, Posts}
 use Rattle.arrival.specs.Arrive.{told, ofQuotes, bothQuotes, rejectedBy, replaced, posted, remainder, cancelledRest, finished, entered, noneTraded, stopsAtOnce, protectionFor, orElse, rejection, arrivedAs, arrived}
 use Rattle.arrival.specs.Asks.{Arriving, Enters, Arrives, Takes, TakesOn, TookAs, takingOf, tradeAs, NextTrade, Rests, Finishes}
-use Rattle.arrival.proofs.StageLaws.{roomy-first, staged-list, staged-then, staged-room, staged-none, staged-as, roomy-as}
+use Rattle.settling.proofs.StageLaws.{roomy-first, staged-list, staged-then, staged-room, staged-none, staged-as, roomy-as}
 use Rattle.arrival.proofs.TakeLaws.{take-falls, took-length, took-sound}
 use Rattle.arrival.proofs.ArriveKeeps.{goesOn, replaced-stage}
 use Rattle.arrival.proofs.EnterLaws.{arrived-enters, arrived-rejected, posts-of}

@@ -1,6 +1,4 @@
-pub mod StageLaws
 pub mod CancelLaws
-pub mod GoingLaws
 pub mod TradeLaws
 pub mod PostingLaws
 pub mod ReasonLaws

@@ -20,23 +20,13 @@ use Rattle.book.proofs.ShapeLaws.{length-entries, book-of-entries, holds}
 use Rattle.book.proofs.ChangeLaws.{hit-fits}
 use Rattle.settling.specs.Tell.{traded}
 use Rattle.settling.specs.Stage.{Roomy}
-use Rattle.book.specs.Look.{bestContra, eligible, priority}
-use Rattle.book.proofs.LookLaws.{ContraTells, contra-tells}
-use Rattle.lists.proofs.ChooseLaws.{Tells}
+use Rattle.book.specs.Look.{bestContra}
 use Rattle.arrival.specs.declared.take.Trade.{Trade}
 use Rattle.arrival.specs.Take.{Taking, shownOnly, nextTake, chances, taken}
 use Rattle.arrival.specs.Asks.{tradeAs, NextTrade, Takes, TookAs, takingOf}
-use Rattle.arrival.proofs.CancelLaws.{Ranked}
-use Rattle.arrival.proofs.GoingLaws.{Going, going-start, going-end, going-less, going-room, going-on}
+use Rattle.book.proofs.RankLaws.{Ranked}
+use Rattle.settling.proofs.GoingLaws.{Going, going-start, going-end, going-less, going-room, going-on}
 use Rattle.arrival.proofs.TakeLaws.{take-falls}
-
--- what the best contra entry is, as ranks are told
-pub best-tells : (s shown : Bool) (l : List Entry) → Tells (eligible s shown) (priority s) l (bestContra s shown l)
-best-tells s shown l = go (bestContra s shown l) (contra-tells s shown l)
-  where
-    go : (f : Found Entry) → ContraTells s shown l f → Tells (eligible s shown) (priority s) l f
-    go nowhere h = h
-    go (found i e) h = h .chosen
 
 module _ (cap : ℕ) (e : Entry) (t : Taking) where
   -- nobody to trade with
@@ -50,7 +40,7 @@ module _ (cap : ℕ) (e : Entry) (t : Taking) where
         → r .going ≡ false → r .quantity ≡ 0 → NextTrade cap e t r
     unfolding nextTake
     out-of-bound r h g q = record {
-      is = rw (b .there, apart (eqb (t .left) 0) (reaches (e .sell) cap (getD (t .book) i zeroEntry .working)) h, g);
+      is = rw (b .is, apart (eqb (t .left) 0) (reaches (e .sell) cap (getD (t .book) i zeroEntry .working)) h, g);
       inside = λ h. absurd (let z : _≡_ {A = ℕ} 0 1 = cc in omega arith);
       most = omega arith;
     }
@@ -66,7 +56,7 @@ module _ (cap : ℕ) (e : Entry) (t : Taking) where
         → NextTrade cap e t (record { going = true; at = i; entry = y; quantity = q })
     unfolding nextTake
     in-bound y q s w h = record {
-      is = rw (b .there, ← s, both (eqb (t .left) 0) (reaches (e .sell) cap (y .working)) h, w);
+      is = rw (b .is, ← s, both (eqb (t .left) 0) (reaches (e .sell) cap (y .working)) h, w);
       inside = λ _. b .inside;
       most = omega arith;
     }
@@ -94,7 +84,7 @@ module _ {cap : ℕ} {e : Entry} {left₀ : ℕ} {b₀ : Book} {room₀ : List �
   unfolding taken
   take-done g =
       let stops : nextTake cap e (takingOf left b) ≡ stop = nt .is ∙ rw g refl in
-      let z = going-end (take-falls cap e) (v .going) stops in
+      let z = going-end (v .going) stops in
       record {
         book = book-of-entries b (v .well) ∙ ap (λ (t : Taking). bookOf (t .book)) (z .final);
         well = v .well;
@@ -108,7 +98,7 @@ module _ {cap : ℕ} {e : Entry} {left₀ : ℕ} {b₀ : Book} {room₀ : List �
     goes = nt .is ∙ rw g refl
 
     pub take-room : Roomy room n (traded e (x .entry) (x .quantity) ∷ [])
-    take-room = going-room (take-falls cap e) (v .going) (traded e (x .entry) (x .quantity)) (record { left = left - x .quantity; book = hit (x .at) (x .quantity) (entriesOf b) }) goes
+    take-room = going-room (v .going) (take-falls cap e) (traded e (x .entry) (x .quantity)) (record { left = left - x .quantity; book = hit (x .at) (x .quantity) (entriesOf b) }) goes
 
     pub take-place : Place b (x .at)
     take-place = record { well = v .well; inside = omega (arith, nt .inside g, length-entries b (v .well)) }
@@ -118,11 +108,11 @@ module _ {cap : ℕ} {e : Entry} {left₀ : ℕ} {b₀ : Book} {room₀ : List �
       same = ap (λ (l : List Entry). record { left = left - x .quantity; book = l }) (sym (holds q (hit-fits b (x .at) (x .quantity) (v .well)) .list))
 
       pub take-less : chances (takingOf (left - x .quantity) c) < chances (takingOf left b)
-      take-less = rw same at (going-less (take-falls cap e) (v .going) (traded e (x .entry) (x .quantity)) (record { left = left - x .quantity; book = hit (x .at) (x .quantity) (entriesOf b) }) goes)
+      take-less = rw same at (going-less (v .going) (take-falls cap e) (traded e (x .entry) (x .quantity)) (record { left = left - x .quantity; book = hit (x .at) (x .quantity) (entriesOf b) }) goes)
 
       pub take-on : (room′ : List ℕ) (n′ : ℕ) → room′ ≡ written room n (traded e (x .entry) (x .quantity) ∷ []) → n′ ≡ n + 1
           → TakingOn cap e left₀ b₀ room₀ n₀ (left - x .quantity) c room′ n′
       take-on room′ n′ w k = record {
         well = holds q (hit-fits b (x .at) (x .quantity) (v .well)) .well;
-        going = rw same at (going-on (take-falls cap e) (v .going) (traded e (x .entry) (x .quantity)) (record { left = left - x .quantity; book = hit (x .at) (x .quantity) (entriesOf b) }) goes w k);
+        going = rw same at (going-on (v .going) (take-falls cap e) (traded e (x .entry) (x .quantity)) (record { left = left - x .quantity; book = hit (x .at) (x .quantity) (entriesOf b) }) goes w k);
       }

@@ -70,9 +70,6 @@ abbrev pub swept : ℕ → Entry → Bool
 swept phase e = cond (eqb phase 0) true (cond (eqb phase 2) (quote e) false)
 
 -- "then 31s by entry"
-abbrev pub numberOf : Entry → ℕ
-numberOf e = e .number
-
 abbrev pub sweepAt : List Entry → Found Entry → Step (List Entry) Report
 sweepAt l nowhere = stop
 sweepAt l (found i e) = go (cancelled 31 e) (without i l)

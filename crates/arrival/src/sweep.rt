@@ -7,14 +7,12 @@ use book::Rank;
 use book::entries::is_quote;
 use book::look::lower_of;
 use book::look::rank_of;
+use settle::ease::number_key;
 ghost use mathlib.Core.Path.{_≡_};
-ghost use mathlib.Core.Bool.{true};
-ghost use Prim.Native.Nat.{_<_};
-ghost use Rattle.lists.specs.Choose.{keyed};
 ghost use Rattle.book.specs.Shape.{entriesOf, WellFormed};
 ghost use Rattle.book.specs.Look.{rankOf, lowest};
 ghost use Rattle.settling.specs.Stage.{Staged};
-ghost use Rattle.arrival.specs.Cancel.{swept, numberOf, sweep, Asks};
+ghost use Rattle.arrival.specs.Cancel.{swept, sweep, Asks};
 
 fn is_swept(phase: u32, e: Entry) -> bool
     ensures { λ r. ⌜ r ≡ swept phase e ⌝ }
@@ -26,16 +24,6 @@ fn is_swept(phase: u32, e: Entry) -> bool
         return is_quote(e);
     }
     false
-}
-
-// By entry number: the key of an entry that goes, and one above all keys for the others.
-fn sweep_key(phase: u32, e: Entry) -> u64
-    ensures { λ r. ⌜ (r ≡ keyed 1099511627776 (swept phase) numberOf e) × (swept phase e ≡ true → numberOf e < 1099511627776) ⌝ }
-{
-    if is_swept(phase, e) {
-        return e.number as u64;
-    }
-    1099511627776
 }
 
 // The first by entry number that goes.
@@ -50,7 +38,8 @@ fn first_swept(b: Book, phase: u32) -> Rank
     };
     let mut i = 0usize;
     while i < n {
-        let key = sweep_key(phase, b.entries[i]);
+        let e = b.entries[i];
+        let key = number_key(is_swept(phase, e), e);
         held = lower_of(held, i, key);
         i += 1;
     }

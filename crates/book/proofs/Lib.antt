@@ -2,3 +2,4 @@ pub mod ShapeLaws
 pub mod ChangeLaws
 pub mod OfferLaws
 pub mod LookLaws
+pub mod RankLaws

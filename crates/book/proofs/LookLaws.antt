@@ -11,7 +11,7 @@ use lib.ListN.{length, getD}
 use borrow.Author.Tests.{lt-ltb, ltb-true, ltb-false}
 use Rattle.prices.specs.Side.{nearer}
 use Rattle.lists.specs.Places.{At}
-use Rattle.lists.specs.Choose.{Found, nowhere, found, first, lesser, keyed}
+use Rattle.lists.specs.Choose.{Found, nowhere, found, keyed}
 use Rattle.lists.proofs.PlaceLaws.{at-left, at-last, at-snoc}
 use Rattle.lists.proofs.ChooseLaws.{scan-says, Nobody, Chosen, Tells, first-tells}
 use Rattle.lists.proofs.LoopLaws.{Held, nothing, something, Lowering, lower-taken, lower-kept}
@@ -73,9 +73,12 @@ module _ (s shownOnly : Bool) (l : List Entry) where
   says nowhere h = h
   says (found i e) h = best-of i e h
 
-  pub contra-tells : ContraTells s shownOnly l (bestContra s shownOnly l)
+  pub best-tells : Tells (eligible s shownOnly) (priority s) l (bestContra s shownOnly l)
   unfolding bestContra
-  contra-tells = says (first (eligible s shownOnly) (lesser (priority s)) l) (first-tells (eligible s shownOnly) (priority s) l)
+  best-tells = first-tells (eligible s shownOnly) (priority s) l
+
+  pub contra-tells : ContraTells s shownOnly l (bestContra s shownOnly l)
+  contra-tells = says (bestContra s shownOnly l) best-tells
 
 -- ---- the prices that a side faces ----
 

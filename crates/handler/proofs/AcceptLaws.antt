@@ -21,7 +21,7 @@ use Rattle.settle.specs.Turns.{Settleable}
 use Rattle.arrival.specs.declared.Terms.{Terms}
 use Rattle.arrival.specs.Terms.{marketOf}
 use Rattle.arrival.specs.Arrive.{told, blocks}
-use Rattle.arrival.proofs.StageLaws.{roomy-as}
+use Rattle.settling.proofs.StageLaws.{roomy-as}
 use Rattle.series.specs.declared.Series.{Series}
 use Rattle.handler.specs.declared.Ask.{Ask}
 use Rattle.handler.specs.declared.Answer.{Answer}

@@ -19,7 +19,7 @@ use Rattle.arrival.specs.declared.Terms.{Terms}
 use Rattle.arrival.specs.Terms.{marketOf}
 use Rattle.arrival.specs.Cancel.{cancelEntry, cancelQuote, sweep}
 use Rattle.arrival.specs.Arrive.{told, arrived}
-use Rattle.arrival.proofs.StageLaws.{staged-list, staged-then, staged-room}
+use Rattle.settling.proofs.StageLaws.{staged-list, staged-then, staged-room}
 use Rattle.series.specs.declared.Series.{Series}
 use Rattle.handler.specs.declared.Ask.{Ask}
 use Rattle.handler.specs.Asked.{enters}

@@ -7,12 +7,11 @@ use crate::refuse::refusal_of;
 use arrival::Terms;
 use arrival::arrive::arrive;
 use arrival::arrive::rejection_of;
-use arrival::cancel::cut_at;
 use arrival::cancel::cut_quote;
+use arrival::cancel::cut_rank;
 use arrival::post::market_of;
 use arrival::sweep::sweep_all;
 use book::Book;
-use book::Rank;
 use book::find::find_entry;
 use packing::message::Event;
 use packing::message::Unpacked;
@@ -81,10 +80,7 @@ fn cancel_entry(b: Book, party: u8, entry: u32, room: &mut [u8], n: &mut usize) 
     ensures { λ r. ⌜ Staged (cancelEntry party entry (entriesOf b)) (now (room .entry)) (now (n .entry)) r (now (room .exit)) (now (n .exit)) ⌝ }
 {
     let rank = find_entry(b, party, entry);
-    let Rank::At(i) = rank else {
-        return b;
-    };
-    cut_at(b, i, 28, room, n)
+    cut_rank(b, rank, 28, room, n)
 }
 
 // A phase is noted, and then cancels.

@@ -28,7 +28,7 @@ use Rattle.settling.specs.Settle.{easedPrices, aimsIn, tradeAt, reprice, tradeO
 use Rattle.settle.specs.Turns.{entryIn, ownMarket, Judged, Watched, Turn, tradeStep, StirTurn}
 use Rattle.settling.proofs.Shapes.{restPrices, marketableIn}
 use Rattle.settling.proofs.Settles.{sound-for}
-use Rattle.settling.proofs.StageLaws.{staged-as, roomy-as}
+use Rattle.settling.proofs.StageLaws.{staged-step, roomy-step}
 use Rattle.settle.proofs.RankLaws.{own-faces}
 
 -- a turn with a new entry, by another name
@@ -98,11 +98,11 @@ module _ {k own : Market} {b : Book} {i n : ℕ} {room : List ℕ} (turn : StirT
     trades = stir-trades k (entriesOf b) i (entryIn b i) (sym judged ∙ yes)
 
     pub trade-turn : Turn b i room n (alone (entriesOf b) (tradeStep b i) .records)
-    trade-turn = record { place = turn .turn .place; roomy = roomy-as (entriesOf b) trades (turn .turn .roomy) }
+    trade-turn = record { place = turn .turn .place; roomy = roomy-step (entriesOf b) trades (turn .turn .roomy) }
 
     pub trade-staged : {b′ : Book} {room′ : List ℕ} {n′ : ℕ} → Staged (alone (entriesOf b) (tradeStep b i)) room n b′ room′ n′
         → Staged (alone (entriesOf b) (stirAt k (entriesOf b) (found i (entryIn b i)))) room n b′ room′ n′
-    trade-staged s = staged-as (entriesOf b) trades s
+    trade-staged s = staged-step (entriesOf b) trades s
 
   module _ (no : t ≡ false) {d : ℕ} (r : Prices) (e′ : Entry) (hd : d ≡ display (entryIn b i)) (hr : r ≡ resting (entryIn b i .sell) d p)
       (he : e′ ≡ priced (record { display = r .display; working = r .working }) (entryIn b i)) where
@@ -115,10 +115,10 @@ module _ {k own : Market} {b : Book} {i n : ℕ} {room : List ℕ} (turn : StirT
     pub move-turn : Turn b i room n (repriced e′ ∷ [])
     move-turn =
         turn-entry e′ (priced (restPrices k (entriesOf b) (entryIn b i)) (entryIn b i)) becomes
-        (record { place = turn .turn .place; roomy = roomy-as (entriesOf b) rests (turn .turn .roomy) })
+        (record { place = turn .turn .place; roomy = roomy-step (entriesOf b) rests (turn .turn .roomy) })
 
     pub move-staged : {b′ : Book} {room′ : List ℕ} {n′ : ℕ} → Staged (alone (entriesOf b) (go (repriced e′) (requeue i e′ (entriesOf b)))) room n b′ room′ n′
         → Staged (alone (entriesOf b) (stirAt k (entriesOf b) (found i (entryIn b i)))) room n b′ room′ n′
     move-staged s =
-        staged-as (entriesOf b) rests
+        staged-step (entriesOf b) rests
         (staged-entry i (entriesOf b) e′ (priced (restPrices k (entriesOf b) (entryIn b i)) (entryIn b i)) becomes s)

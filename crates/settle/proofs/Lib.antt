@@ -1,5 +1,5 @@
 pub mod RankLaws
-pub mod Looping
+pub mod Rules
 pub mod Judging
 pub mod Turning
 pub mod Whole

@@ -13,7 +13,8 @@ use Rattle.settling.specs.Stage.{Staged, SoundFor, alone}
 use Rattle.settling.specs.Settle.{easing, easeAt, nextEase, easings, stirring, stirAt, nextStir, stirrings, eased, stirred}
 use Rattle.settle.specs.Turns.{entryIn, ownMarket, stirringBy, Judgeable, Watched, EaseTurn, StirTurn, Easeable, Stirable}
 use Rattle.settle.proofs.RankLaws.{Lowest, lowest-at, ease-at-is, ease-none-is, stir-lowest, stir-at-is, stir-none-is}
-use Rattle.settle.proofs.Looping.{Goes, Looping, loop-start, loop-done, loop-free, loop-falls, loop-turn, easing-falls, Uneased, stirring-falls, stir-goes}
+use Rattle.settling.proofs.GoingLaws.{Goes, Looping, loop-start, loop-done, loop-free, loop-falls, loop-turn}
+use Rattle.settle.proofs.Rules.{easing-falls, Uneased, stirring-falls, stir-goes}
 use Rattle.settle.proofs.Judging.{watched-bounds}
 
 -- ---- easing ----
@@ -56,7 +57,7 @@ stir-start h = loop-start (h .well) (record { sound = h .sound; uneased = h .une
 
 module _ {k own : Market} {b₀ b : Book} {room₀ room : List ℕ} {n₀ n : ℕ} (v : StirLoop k b₀ room₀ n₀ b room n) (known : own ≡ ownMarket k (entriesOf b)) where
   watched : Watched k own b
-  watched = record { well = v .well; sound = v .ok .sound; known = known }
+  watched = record { well = v .well; sound = v .going .ok .sound; known = known }
 
   pub stir-judges : Judgeable k own b
   stir-judges = record { well = v .well; judged = watched-bounds watched }

@@ -1,21 +1,20 @@
 -- Settling as code: easing's stage and behind it the stage of trades and moves, each with what it asks.
 -- Assumes nothing.
 use Prim.Native.Nat.{ℕ}
-use mathlib.Core.Path.{_≡_, sym, subst, ap, _∙_}
+use mathlib.Core.Path.{_≡_, sym, subst}
 use mathlib.Core.List.{List}
 use Rattle.prices.specs.declared.Market.{Market}
 use Rattle.lists.specs.Run.{stop}
 use Rattle.book.specs.declared.Entry.{Entry}
 use Rattle.book.specs.declared.Book.{Book}
 use Rattle.book.specs.Shape.{entriesOf}
-use Rattle.book.proofs.ShapeLaws.{entries-of-book}
-use Rattle.settling.specs.Stage.{Roomy, Staged, SoundFor}
+use Rattle.settling.specs.Stage.{Staged, SoundFor}
 use Rattle.settling.specs.Settle.{nextEase, eased, stirred, settled}
 use Rattle.settle.specs.Turns.{Easeable, Stirable, Settleable}
 use Rattle.settling.proofs.StirRule.{Easy}
 use Rattle.settling.proofs.Settles.{sound-for, easy-one}
-use Rattle.settling.proofs.StageLaws.{roomy-first, roomy-then, staged-then}
-use Rattle.settle.proofs.Looping.{keep-sound, easy-uneased}
+use Rattle.settling.proofs.StageLaws.{roomy-first, staged-list, staged-then, staged-room}
+use Rattle.settle.proofs.Rules.{keep-sound, easy-uneased}
 
 module _ {k : Market} {b : Book} {room : List ℕ} {n : ℕ} (h : Settleable k b room n) where
   pub settle-eases : Easeable k b room n
@@ -30,18 +29,15 @@ module _ {k : Market} {b : Book} {room : List ℕ} {n : ℕ} (h : Settleable k b
   easy = easy-one k (h .sound .top) (sound-for (h .sound) .0) (entriesOf b) (sound-for (h .sound) .1)
 
   module _ {c : Book} {room′ : List ℕ} {n′ : ℕ} (s : Staged (eased k (entriesOf b)) room n c room′ n′) where
-    list : entriesOf c ≡ eased k (entriesOf b) .final
-    list = ap entriesOf (s .book) ∙ entries-of-book (eased k (entriesOf b) .final)
-
     pub settle-stirs : Stirable k c room′ n′
     unfolding settled
     settle-stirs = record {
       well = s .well;
-      sound = subst (SoundFor k) (sym list) (keep-sound (h .sound) (easy .sound));
-      uneased = subst (λ (l : List Entry). nextEase k l ≡ stop) (sym list) (easy-uneased (sound-for (h .sound) .0) easy);
-      roomy = subst (λ (l : List Entry). Roomy room′ n′ (stirred k l .records)) (sym list) (roomy-then s (stirred k (eased k (entriesOf b) .final) .records) (h .roomy));
+      sound = subst (SoundFor k) (sym (staged-list s)) (keep-sound (h .sound) (easy .sound));
+      uneased = subst (λ (l : List Entry). nextEase k l ≡ stop) (sym (staged-list s)) (easy-uneased (sound-for (h .sound) .0) easy);
+      roomy = staged-room s (stirred k) (h .roomy);
     }
 
     pub settle-ends : {d : Book} {room″ : List ℕ} {n″ : ℕ} → Staged (stirred k (entriesOf c)) room′ n′ d room″ n″ → Staged (settled k (entriesOf b)) room n d room″ n″
     unfolding settled
-    settle-ends {d} {room″} {n″} t = staged-then s (stirred k) (subst (λ (l : List Entry). Staged (stirred k l) room′ n′ d room″ n″) list t)
+    settle-ends t = staged-then s (stirred k) t

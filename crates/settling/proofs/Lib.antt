@@ -7,3 +7,4 @@ pub mod Takers
 pub mod Quiet
 pub mod Settles
 pub mod StageLaws
+pub mod GoingLaws

@@ -1,13 +1,10 @@
-use Rattle.arrival.proofs.StageLaws.{roomy-as}
+use Rattle.settling.proofs.StageLaws.{roomy-told, staged-go}
 use Rattle.settling.specs.Tell.{cancelled}
 use Rattle.book.proofs.ChangeLaws.{without-fits}
-use Rattle.book.proofs.ShapeLaws.{entry-at, holds}
-use Rattle.book.specs.Shape.{zeroEntry}
-use Rattle.book.specs.declared.Entry.{Entry}
-use Rattle.packing.specs.Room.{written}
-use Rattle.packing.specs.declared.report.Report.{Report}
+use Rattle.book.proofs.ShapeLaws.{entry-at}
+use Rattle.book.specs.Shape.{zeroEntry, entriesOf}
+use Rattle.lists.specs.Places.{without}
 use native.Mathlib.Omega.{arith}
-use mathlib.Core.List.{[], _∷_}
 use mathlib.Core.Path.{sym, ap, _∙_}
 use borrow.Author.Needs.{needs}
 use Rattle.arrival.proofs.cancel.cut_at.Statement.{statement}
@@ -23,7 +20,9 @@ tell-cancelled-requires : tie.Need-tell-cancelled-requires
 tell-cancelled-requires c κs = search needs
 
 put-requires : tie.Need-put-requires
-put-requires c κs = let s = c .before .before .before .before .before in roomy-as (ap (λ (r : Report). r ∷ []) (sym (c .before .before .tell-cancelled .ensures ∙ ap (λ (e : Entry). cancelled (s .args .why) e) (sym (entry-at (s .args .t1) (s .args .i) zeroEntry (s .pre .place .inside)))))) (s .pre .roomy)
+put-requires c κs =
+    let s = c .before .before .before .before .before in
+    roomy-told (c .before .before .tell-cancelled .ensures ∙ ap (cancelled (s .args .why)) (sym (entry-at (s .args .t1) (s .args .i) zeroEntry (s .pre .place .inside)))) (s .pre .roomy)
 
 removed-requires : tie.Need-removed-requires
 removed-requires c κs = search needs
@@ -32,7 +31,9 @@ same-length : tie.Need-same-length
 same-length c = search needs
 
 returns : tie.Need-returns
-returns c = let s = c .before .before .before .before .before .before .before .before .before in let p = c .before .before .before .put in let told = c .before .before .before .before .before .before .tell-cancelled .ensures ∙ ap (λ (e : Entry). cancelled (s .args .why) e) (sym (entry-at (s .args .t1) (s .args .i) zeroEntry (s .pre .place .inside))) in record { book = c .removed .ensures; well = holds (c .removed .ensures) (omega (arith, without-fits (s .args .t1) (s .args .i) (s .pre .place))) .well; bytes = p .ensures .bytes ∙ ap (λ (r : Report). written (s .args .room .now) (s .args .n .now) (r ∷ [])) told; count = p .ensures .count }
+returns c =
+    let s = c .before .before .before .before .before .before .before .before .before in
+    staged-go (entriesOf (s .args .t1)) (without (s .args .i) (entriesOf (s .args .t1))) (c .before .before .before .before .before .before .tell-cancelled .ensures ∙ ap (cancelled (s .args .why)) (sym (entry-at (s .args .t1) (s .args .i) zeroEntry (s .pre .place .inside)))) (c .before .before .before .put .ensures) (c .removed .ensures) (omega (arith, without-fits (s .args .t1) (s .args .i) (s .pre .place)))
 
 pub cut-at-spec : {M : Type 1} → statement M
 cut-at-spec =

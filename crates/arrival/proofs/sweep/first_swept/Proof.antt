@@ -1,17 +1,20 @@
-use Prim.Native.Nat.{_-_}
-use mathlib.Core.Path.{ap, _∙_}
-use native.Mathlib.Omega.{arith}
-use Rattle.arrival.specs.Cancel.{swept, numberOf}
-use Rattle.lists.proofs.LoopLaws.{Lowering, lower-start, lower-done}
+use Rattle.book.proofs.RankLaws.{key-is}
+use lib.ListN.{getD}
+use Rattle.arrival.specs.Cancel.{swept}
+use Rattle.settling.proofs.Shapes.{number}
+use Rattle.book.proofs.LookLaws.{lower-turn, held-rank}
 use Rattle.book.specs.Look.{lower, lowest}
 use Rattle.book.specs.Shape.{zeroEntry, entriesOf}
-use Rattle.book.proofs.LookLaws.{lower-turn, held-rank}
+use Rattle.lists.proofs.LoopLaws.{Lowering, lower-start, lower-done}
+use native.Mathlib.Omega.{arith}
+use mathlib.Core.Path.{ap, _∙_}
+use Prim.Native.Nat.{_-_}
 use borrow.Author.Needs.{needs}
 use Rattle.arrival.proofs.sweep.first_swept.Statement.{statement}
 use Rattle.arrival.proofs.sweep.first_swept.Tie as tie
 
 abbrev Inv-loop : tie.InvT-loop
-Inv-loop phase b n held₀ i₀ held i = Lowering 1099511627776 (swept phase) numberOf (b .entries) n (held .key) (held .at) i
+Inv-loop phase b n held₀ i₀ held i = Lowering 1099511627776 (swept phase) number (b .entries) n (held .key) (held .at) i
 
 abbrev μ-loop : tie.MeasureT-loop
 μ-loop phase b n held₀ i₀ held i = n - i
@@ -19,14 +22,17 @@ abbrev μ-loop : tie.MeasureT-loop
 loop-holds : tie.Need-loop-holds Inv-loop μ-loop
 loop-holds c = lower-start 0
 
-mul-sweep-key : tie.Need-mul-sweep-key Inv-loop μ-loop
-mul-sweep-key c = search needs
+mul-e : tie.Need-mul-e Inv-loop μ-loop
+mul-e c = search needs
 
-element-copy-out-sweep-key : tie.Need-element-copy-out-sweep-key Inv-loop μ-loop
-element-copy-out-sweep-key c = search needs
+element-copy-out-e : tie.Need-element-copy-out-e Inv-loop μ-loop
+element-copy-out-e c = search needs
 
-sweep-key-requires : tie.Need-sweep-key-requires Inv-loop μ-loop
-sweep-key-requires c κs = search needs
+is-swept-requires : tie.Need-is-swept-requires Inv-loop μ-loop
+is-swept-requires c κs = search needs
+
+number-key-requires : tie.Need-number-key-requires Inv-loop μ-loop
+number-key-requires c κs = search needs
 
 lower-of-requires : tie.Need-lower-of-requires Inv-loop μ-loop
 lower-of-requires c κs = search needs
@@ -38,7 +44,10 @@ loop-less : tie.Need-loop-less Inv-loop μ-loop
 loop-less c = search needs
 
 loop-again : tie.Need-loop-again Inv-loop μ-loop
-loop-again c = let s = c .before .before .before .before .before in let l = c .before .before .before .before .loop in lower-turn (l .held) zeroEntry (c .lower-of .result) (l .inv) (omega (arith, s .pre .few, s .pre .places)) (c .before .before .before .loop-test .taken) (c .before .sweep-key .ensures .1) (c .lower-of .ensures ∙ ap (lower (l .held) (l .i)) (c .before .sweep-key .ensures .0))
+loop-again c =
+    let s = c .before .before .before .before .before .before in
+    let l = c .before .before .before .before .before .loop in
+    lower-turn (l .held) zeroEntry (c .lower-of .result) (l .inv) (omega (arith, s .pre .few, s .pre .places)) (c .before .before .before .before .loop-test .taken) (λ _. c .before .number-key .ensures .1) (c .lower-of .ensures ∙ ap (lower (l .held) (l .i)) (key-is (swept (s .args .phase)) (getD (s .args .t1 .entries) (l .i) zeroEntry) (c .before .number-key .result) (c .before .number-key .ensures .0) (c .before .before .is-swept .ensures)))
 
 rank-of-requires : tie.Need-rank-of-requires Inv-loop μ-loop
 rank-of-requires c κs = search needs
@@ -54,9 +63,10 @@ first-swept-spec =
     Inv-loop
     μ-loop
     loop-holds
-    mul-sweep-key
-    element-copy-out-sweep-key
-    sweep-key-requires
+    mul-e
+    element-copy-out-e
+    is-swept-requires
+    number-key-requires
     lower-of-requires
     add-i
     loop-less

@@ -1,4 +1,4 @@
-use Rattle.settle.proofs.RankLaws.{key-is}
+use Rattle.book.proofs.RankLaws.{key-is}
 use lib.ListN.{getD}
 use Rattle.settling.specs.Settle.{easing}
 use Rattle.settling.proofs.Shapes.{number}

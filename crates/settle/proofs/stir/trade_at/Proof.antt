@@ -1,5 +1,5 @@
 use Rattle.settle.proofs.RankLaws.{trade-two, trade-is, trade-none}
-use Rattle.settling.proofs.StageLaws.{staged-stop, staged-as, roomy-as}
+use Rattle.settling.proofs.StageLaws.{staged-stop, staged-step, roomy-step}
 use Rattle.book.specs.Shape.{entriesOf}
 use mathlib.Core.Path.{sym, _∙_}
 use borrow.Author.Needs.{needs}
@@ -24,13 +24,13 @@ enum-told c = search needs
 returns : tie.Need-returns
 returns c =
     let s = c .before .before .before .before .before in
-    staged-as (entriesOf (s .args .t1)) (trade-none (s .args .t1) (s .args .i) (s .pre .place) (sym (c .enum-told .given .1) ∙ c .before .before .best-contra .ensures)) (staged-stop (s .pre .place .well))
+    staged-step (entriesOf (s .args .t1)) (trade-none (s .args .t1) (s .args .i) (s .pre .place) (sym (c .enum-told .given .1) ∙ c .before .before .best-contra .ensures)) (staged-stop (s .pre .place .well))
 
 deal-requires : tie.Need-deal-requires
 deal-requires c κs =
     let s = c .before .before .before .before .before .before .before .before in
     let e = sym (c .before .before .before .rank .given .1) ∙ c .before .before .before .before .before .best-contra .ensures in
-    record { two = trade-two (s .args .t1) (s .args .i) (s .pre .place) (c .before .before .before .rank .given .0 .0) e; roomy = roomy-as (entriesOf (s .args .t1)) (trade-is (s .args .t1) (s .args .i) (s .pre .place) (c .before .before .before .rank .given .0 .0) e) (s .pre .roomy) }
+    record { two = trade-two (s .args .t1) (s .args .i) (s .pre .place) (c .before .before .before .rank .given .0 .0) e; roomy = roomy-step (entriesOf (s .args .t1)) (trade-is (s .args .t1) (s .args .i) (s .pre .place) (c .before .before .before .rank .given .0 .0) e) (s .pre .roomy) }
 
 same-length : tie.Need-same-length
 same-length c = search needs
@@ -38,7 +38,7 @@ same-length c = search needs
 returns-2 : tie.Need-returns-2
 returns-2 c =
     let s = c .before .before .before .before .before .before .before .before .before .before .before in
-    staged-as (entriesOf (s .args .t1)) (trade-is (s .args .t1) (s .args .i) (s .pre .place) (c .before .before .before .before .before .before .rank .given .0 .0) (sym (c .before .before .before .before .before .before .rank .given .1) ∙ c .before .before .before .before .before .before .before .before .best-contra .ensures)) (c .before .before .deal .ensures)
+    staged-step (entriesOf (s .args .t1)) (trade-is (s .args .t1) (s .args .i) (s .pre .place) (c .before .before .before .before .before .before .rank .given .0 .0) (sym (c .before .before .before .before .before .before .rank .given .1) ∙ c .before .before .before .before .before .before .before .before .best-contra .ensures)) (c .before .before .deal .ensures)
 
 pub trade-at-spec : {M : Type 1} → statement M
 trade-at-spec =
