@@ -72,14 +72,14 @@ facts-of {t} a = sound-for (record { top = t .given; market = a .market; entries
 pub enters-posts : {t : Terms} {e : Entry} {b : Book} → Enters t e b → Posts t e b
 enters-posts {t} {e} {b} n = posts-of t e b (n .arriving .market) (n .arriving .steps) (n .well) (facts-of (n .arriving) .1)
 
-given-high : {m p : ℕ} → Given m p → p ≤ 100000
+pub given-high : {m p : ℕ} → Given m p → p ≤ 100000
 given-high {m} {p} g = pick (eqb p 0) refl
   where
     pick : (b : Bool) → eqb p 0 ≡ b → p ≤ 100000
     pick true q = omega (arith, eqb-true p 0 q)
     pick false q = g .legal q .high
 
-given-display : {m top : ℕ} (x : Entry) → EntryFacts m top x → Given m (display x)
+pub given-display : {m top : ℕ} (x : Entry) → EntryFacts m top x → Given m (display x)
 given-display {m} x f = pick (x .pricing) (f .prices)
   where
     pick : (p : Pricing) → PricedAs m (x .kind) (x .sell) (x .limit) (x .working) p → Given m (shownAs (x .limit) p)

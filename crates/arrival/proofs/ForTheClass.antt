@@ -253,10 +253,10 @@ NoTrade (Rested s party number display working quantity) = Unit {0}
 NoTrade (Repriced s party number display working quantity) = Unit {0}
 NoTrade (Cancelled why s party number limit quantity) = Unit {0}
 
--- AN MMALO ADDS ONLY: whatever the book, none of the reports of its arrival is of a trade
-pub adds-only : (t : Terms) (e : Entry) (l : List Entry) → e .kind ≡ 3 → All NoTrade (arrived t e l .records)
+-- AN MMALO ADDS ON ARRIVAL: whatever the book, none of the reports of its arrival is of a trade (of all that it does while it rests: handler, ForTheClass)
+pub adds-on-arrival : (t : Terms) (e : Entry) (l : List Entry) → e .kind ≡ 3 → All NoTrade (arrived t e l .records)
 unfolding minds
-adds-only t e l k =
+adds-on-arrival t e l k =
     arrived-says t e l NoTrade (record {
       rejects = λ p why. tt;
       cancels = λ p why s x o. tt;

@@ -10,6 +10,7 @@ pub mod ArriveKeeps
 pub mod Leaves
 pub mod OwnSide
 pub mod ArriveTells
+pub mod Afterwards
 pub mod ForTheClass
 pub mod EnterLaws
 pub mod EnteredLaws

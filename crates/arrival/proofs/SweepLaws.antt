@@ -14,7 +14,7 @@ use Rattle.lists.specs.Run.{Step, stop, go, Complete, done, then, still}
 use Rattle.lists.proofs.PlaceLaws.{at-inside, length-without}
 use Rattle.lists.proofs.TestLaws.{all-zip, all-at, all-of, all-without, count-le, count-without, none-count}
 use Rattle.lists.proofs.ChooseLaws.{Tells}
-use Rattle.lists.proofs.RunLaws.{Falls, few, run-stop, ran-complete, complete-stop, complete-keeps}
+use Rattle.lists.proofs.RunLaws.{Falls, few, run-stop, ran-complete, complete-stop, complete-keeps, never-goes, never-stops, same-step}
 use Rattle.packing.specs.declared.report.Report.{Report}
 use Rattle.packing.specs.declared.report.Report.the-variants.{Noted, Rejected, Traded, Rested, Repriced, Cancelled}
 use Rattle.packing.specs.Room.{AllPack}
@@ -36,18 +36,6 @@ use Rattle.arrival.proofs.Leaves.{Rests}
 
 pub data SweepStep (phase : ℕ) (l : List Entry) : Report → List Entry → Type 0 where
   sweeps : {i : ℕ} {e : Entry} → First (swept phase) l i e → SweepStep phase l (cancelled 31 e) (without i l)
-
-never-goes : {A : Type 0} {r : Report} {t : List Entry} → stop ≡ go r t → A
-never-goes e = let z : _≡_ {A = ℕ} 0 1 = cc in absurd (omega arith)
-
-never-stops : {A : Type 0} {r : Report} {t : List Entry} → go r t ≡ stop → A
-never-stops e = let z : _≡_ {A = ℕ} 0 1 = cc in absurd (omega arith)
-
-same-step : (P : Report → List Entry → Type 0) {r r′ : Report} {t t′ : List Entry} → P r t → go r t ≡ go r′ t′ → P r′ t′
-same-step P {r} {r′} {t} {t′} p e =
-    let a : r ≡ r′ = cc in
-    let b : t ≡ t′ = cc in
-    subst (λ (x : Report). P x t′) a (subst (λ (y : List Entry). P r y) b p)
 
 module _ (phase : ℕ) (l : List Entry) where
   pub sweep-step : {r : Report} {t : List Entry} → nextSweep phase l ≡ go r t → SweepStep phase l r t

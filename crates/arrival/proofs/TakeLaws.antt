@@ -20,7 +20,7 @@ use Rattle.lists.specs.Choose.{Found, nowhere, found}
 use Rattle.lists.specs.Run.{stop, go, Complete, Ran, still, leading, ran}
 use Rattle.lists.proofs.Bools.{clash, and-left, and-right, cond-either}
 use Rattle.lists.proofs.PlaceLaws.{at-inside}
-use Rattle.lists.proofs.RunLaws.{Falls, few, run-stop, run-go, ran-complete, complete-stop, complete-keeps}
+use Rattle.lists.proofs.RunLaws.{Falls, few, run-stop, run-go, ran-complete, complete-stop, complete-keeps, never-goes, never-stops, same-step}
 use Rattle.packing.specs.declared.report.Report.{Report}
 use Rattle.packing.specs.Room.{AllPack}
 use Rattle.packing.proofs.ReportLaws.{traded-packs}
@@ -35,7 +35,7 @@ use Rattle.sound.proofs.FrontLaws.{cost-is}
 use Rattle.sound.proofs.TradeLaws.{all-hit, hit-out}
 use Rattle.sound.proofs.KeepLaws.{here-facts, sound-hit}
 use Rattle.settling.specs.Tell.{traded}
-use Rattle.settling.proofs.Keeps.{complete-tells, Stems, stems-start}
+use Rattle.settling.proofs.Keeps.{stems-lessened, complete-tells, Stems, stems-start}
 use Rattle.settling.proofs.Packs.{Packs, all-pack}
 use Rattle.arrival.specs.Take.{Taking, bound, shownOnly, tradeWith, takeAt, nextTake, chances, taken, took}
 use Rattle.arrival.specs.Arrive.{noneTraded}
@@ -55,18 +55,6 @@ pub data TakeStep (cap : ℕ) (e : Entry) (t : Taking) : Report → Taking → T
 abbrev pub withinBound : ℕ → Entry → Found Entry → Bool
 withinBound cap e nowhere = false
 withinBound cap e (found j y) = reaches (e .sell) cap (y .working)
-
-never-goes : {A : Type 0} {r : Report} {u : Taking} → stop ≡ go r u → A
-never-goes e = let z : _≡_ {A = ℕ} 0 1 = cc in absurd (omega arith)
-
-never-stops : {A : Type 0} {r : Report} {u : Taking} → go r u ≡ stop → A
-never-stops e = let z : _≡_ {A = ℕ} 0 1 = cc in absurd (omega arith)
-
-same-step : (P : Report → Taking → Type 0) {r r′ : Report} {u u′ : Taking} → P r u → go r u ≡ go r′ u′ → P r′ u′
-same-step P {r} {r′} {u} {u′} p e =
-    let a : r ≡ r′ = cc in
-    let b : u ≡ u′ = cc in
-    subst (λ (x : Report). P x u′) a (subst (λ (y : Taking). P r y) b p)
 
 module _ (cap : ℕ) (e : Entry) (t : Taking) where
   pub take-step : {r : Report} {u : Taking} → nextTake cap e t ≡ go r u → TakeStep cap e t r u
@@ -175,17 +163,7 @@ module _ (cap : ℕ) (e : Entry) (t : Taking) where
 
   -- EACH ENTRY LEFT IS ONE THAT WAS THERE, of the same number, party, kind, side and limit, and its display has not moved back
   pub take-stems : All (Stems (t .book)) (taken cap e t .final .book)
-  take-stems = take-all (Stems (t .book)) (λ q x h s. record {
-    place = s .place;
-    was = s .was;
-    there = s .there;
-    number = s .number;
-    party = s .party;
-    kind = s .kind;
-    sell = s .sell;
-    limit = s .limit;
-    forward = s .forward;
-  }) (stems-start (t .book))
+  take-stems = take-all (Stems (t .book)) (λ q x h s. stems-lessened q x s) (stems-start (t .book))
 
 sound-step : {m top cap : ℕ} {e : Entry} {t u : Taking} {r : Report} → TakeStep cap e t r u → Sound m top (t .book) → Sound m top (u .book)
 sound-step {t = t} (takes-from {j = j} {y = y} c some within) so = sound-hit so j (min (t .left) (y .quantity))

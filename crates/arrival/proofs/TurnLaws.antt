@@ -28,22 +28,20 @@ module _ (cap : ℕ) (e : Entry) (t : Taking) where
   unfolding taken
   take-spent h = run-stop (nextTake cap e) chances t (take-stops cap e t (rw (eq-eqb (t .left) 0 h) refl))
 
-  pub take-alone : bestContra (e .sell) (shownOnly e) (t .book) ≡ nowhere → taken cap e t ≡ still t
+  take-nothing : withinBound cap e (bestContra (e .sell) (shownOnly e) (t .book)) ≡ false → taken cap e t ≡ still t
   unfolding taken
-  take-alone f = run-stop (nextTake cap e) chances t (take-stops cap e t (go (eqb (t .left) 0)))
+  take-nothing w = run-stop (nextTake cap e) chances t (take-stops cap e t (go (eqb (t .left) 0)))
     where
       go : (b : Bool) → (b || not (withinBound cap e (bestContra (e .sell) (shownOnly e) (t .book)))) ≡ true
       go true = refl
-      go false = rw f refl
+      go false = rw w refl
+
+  pub take-alone : bestContra (e .sell) (shownOnly e) (t .book) ≡ nowhere → taken cap e t ≡ still t
+  take-alone f = take-nothing (rw f refl)
 
   module _ (j : ℕ) (y : Entry) (f : bestContra (e .sell) (shownOnly e) (t .book) ≡ found j y) where
     pub take-beyond : reaches (e .sell) cap (y .working) ≡ false → taken cap e t ≡ still t
-    unfolding taken
-    take-beyond r = run-stop (nextTake cap e) chances t (take-stops cap e t (go (eqb (t .left) 0)))
-      where
-        go : (b : Bool) → (b || not (withinBound cap e (bestContra (e .sell) (shownOnly e) (t .book)))) ≡ true
-        go true = refl
-        go false = rw (f, r) refl
+    take-beyond r = take-nothing (rw (f, r) refl)
 
     pub take-turn : 1 ≤ t .left → reaches (e .sell) cap (y .working) ≡ true
         → taken cap e t ≡ leading (traded e y (min (t .left) (y .quantity))) (taken cap e (afterTrade t j y))

@@ -8,3 +8,4 @@ pub mod Refusals
 pub mod Demands
 pub mod Examples
 pub mod Worked
+pub mod ForTheClass

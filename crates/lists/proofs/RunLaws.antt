@@ -2,11 +2,25 @@
 -- and it has at most as many steps as the measure says. Nobody outside this file counts steps down.
 -- Assumes nothing.
 use Prim.Native.Nat.{ℕ, zero, suc, _+_, _≤_, _<_}
-use mathlib.Core.Path.{_≡_, refl, sym, ap, _∙_}
+use mathlib.Core.Path.{_≡_, refl, sym, subst, ap, _∙_}
 use mathlib.Core.List.{List, [], _∷_}
 use native.Mathlib.Omega.{arith}
 use lib.ListN.{length}
 use Rattle.lists.specs.Run.{Step, stop, go, Complete, done, then, Ran, still, leading, runFor, ran}
+
+-- a step is done, or it goes on in one way
+module _ {S R : Type 0} where
+  pub never-goes : {A : Type 0} {r : R} {t : S} → stop ≡ go r t → A
+  never-goes e = let z : _≡_ {A = ℕ} 0 1 = cc in absurd (omega arith)
+
+  pub never-stops : {A : Type 0} {r : R} {t : S} → go r t ≡ stop → A
+  never-stops e = let z : _≡_ {A = ℕ} 0 1 = cc in absurd (omega arith)
+
+  pub same-step : (P : R → S → Type 0) {r r′ : R} {t t′ : S} → P r t → go r t ≡ go r′ t′ → P r′ t′
+  same-step P {r} {r′} {t} {t′} p e =
+      let a : r ≡ r′ = cc in
+      let b : t ≡ t′ = cc in
+      subst (λ (x : R). P x t′) a (subst (λ (y : S). P r y) b p)
 
 -- each step keeps what is Ok, and lowers the measure
 pub record Falls {S R : Type 0} (step : S → Step S R) (measure : S → ℕ) (Ok : S → Type 0) : Type 0 where

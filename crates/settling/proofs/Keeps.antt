@@ -2,7 +2,8 @@
 -- MOVES BACK while its quote rests.
 -- Assumes nothing.
 use Prim.Native.Nat.{ℕ, _≤_}
-use mathlib.Core.Path.{_≡_, refl}
+use mathlib.Core.Path.{_≡_, refl, subst, _∙_}
+use mathlib.Core.Bool.{Bool}
 use mathlib.Core.List.{List}
 use native.Mathlib.Omega.{arith}
 use Rattle.prices.specs.declared.Prices.{Prices}
@@ -77,27 +78,50 @@ stems-start l = all-of (Stems l) l (λ i e h. record {
   forward = omega arith;
 })
 
+-- at other prices, with a display no less aggressive; and with fewer contracts
+stems-priced : {l : List Entry} (p : Prices) (e : Entry) → seen (e .sell) (display e) ≤ seen (e .sell) (p .display) → Stems l e → Stems l (priced p e)
+stems-priced p e d s = record {
+  place = s .place;
+  was = s .was;
+  there = s .there;
+  number = s .number;
+  party = s .party;
+  kind = s .kind;
+  sell = s .sell;
+  limit = s .limit;
+  forward = omega (arith, s .forward);
+}
+
+pub stems-lessened : {l : List Entry} (q : ℕ) (e : Entry) → Stems l e → Stems l (lessened q e)
+stems-lessened q e s = record {
+  place = s .place;
+  was = s .was;
+  there = s .there;
+  number = s .number;
+  party = s .party;
+  kind = s .kind;
+  sell = s .sell;
+  limit = s .limit;
+  forward = s .forward;
+}
+
+-- what became of what became of it
+pub stems-through : {l r : List Entry} (e : Entry) (s : Stems r e) → Stems l (s .was) → Stems l e
+stems-through e s u = record {
+  place = u .place;
+  was = u .was;
+  there = u .there;
+  number = u .number ∙ s .number;
+  party = u .party ∙ s .party;
+  kind = u .kind ∙ s .kind;
+  sell = u .sell ∙ s .sell;
+  limit = u .limit ∙ s .limit;
+  forward = further (u .was .sell) (s .was .sell) (u .sell) (s .sell) (u .forward) (s .forward);
+}
+  where
+    further : (a b : Bool) → a ≡ b → b ≡ e .sell → seen b (display (u .was)) ≤ seen b (display (s .was)) → seen (e .sell) (display (s .was)) ≤ seen (e .sell) (display e)
+        → seen (e .sell) (display (u .was)) ≤ seen (e .sell) (display e)
+    further a b p q h k = omega (arith, subst (λ (x : Bool). seen x (display (u .was)) ≤ seen x (display (s .was))) q h, k)
+
 pub stems-kept : (l : List Entry) → Kept (All (Stems l))
-stems-kept l = all-kept (Stems l)
-    (λ p e d s. record {
-      place = s .place;
-      was = s .was;
-      there = s .there;
-      number = s .number;
-      party = s .party;
-      kind = s .kind;
-      sell = s .sell;
-      limit = s .limit;
-      forward = omega (arith, s .forward);
-    })
-    (λ q e s. record {
-      place = s .place;
-      was = s .was;
-      there = s .there;
-      number = s .number;
-      party = s .party;
-      kind = s .kind;
-      sell = s .sell;
-      limit = s .limit;
-      forward = s .forward;
-    })
+stems-kept l = all-kept (Stems l) (λ p e d s. stems-priced p e d s) (λ q e s. stems-lessened q e s)

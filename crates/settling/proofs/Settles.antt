@@ -9,7 +9,6 @@ use native.Mathlib.Omega.{arith}
 use lib.ListN.{length, length-append}
 use Rattle.prices.specs.declared.Market.{Market}
 use Rattle.prices.specs.Step.{mpv, given}
-use Rattle.prices.specs.Aims.{minds}
 use Rattle.lists.specs.Places.{At}
 use Rattle.lists.specs.Tests.{All}
 use Rattle.lists.specs.Run.{stop, Complete}
@@ -30,7 +29,7 @@ use Rattle.settling.proofs.EaseRule.{MarketFacts, market-facts, ease-fa
 use Rattle.settling.proofs.StirRule.{Easy, triangle-twice, triangle-mono, stir-falls, stir-length}
 use Rattle.settling.proofs.Keeps.{complete-tells, ease-keeps, stir-keeps, Stems, stems-start, stems-kept}
 use Rattle.settling.proofs.Packs.{Packs, all-pack, pack-append, ease-packs, stir-packs}
-use Rattle.settling.proofs.Takers.{ease-spares, stir-spares}
+use Rattle.settling.proofs.Takers.{Minding, minding-kept, ease-spares, stir-spares}
 
 -- what settling gives for entries l, numbered up to top, before the market k
 pub record Settled (k : Market) (l : List Entry) (top : ℕ) : Type 0 where
@@ -51,8 +50,8 @@ pub record Settled (k : Market) (l : List Entry) (top : ℕ) : Type 0 where
   pub stirring-run : Complete (nextStir k) (eased k l .final) (stirred k (eased k l .final) .records) (settled k l .final)
   -- each entry left is one of those that were there, of the same number, party, kind, side and limit, and its display has not moved back
   pub stems : All (Stems l) (settled k l .final)
-  -- a quote that minds the contra price, MMALO, never takes
-  pub spared : (i : ℕ) (x : Entry) → At l i x → minds (x .kind) ≡ true → All (λ (r : Report). takerOf r ≡ x .number → ⊥) (settled k l .records)
+  -- a quote that minds the contra price, MMALO, never takes: no report has its number as the taker's
+  pub spared : (n : ℕ) → 1 ≤ n → All (Minding n) l → All (λ (r : Report). takerOf r ≡ n → ⊥) (settled k l .records)
 
 -- ---- the two runs ----
 
@@ -107,14 +106,15 @@ module _ (k : Market) (top : ℕ) (mk : MarketFacts k) (l : List Entry) (so : So
   stems-two : All (Stems l) (stirred k (eased k l .final) .final)
   stems-two = complete-keeps (All (Stems l)) (λ s r t h e. stir-keeps (stems-kept l) (stir-step k s e) h) stems-one run-two
 
-  spared-both : (i : ℕ) (x : Entry) → At l i x → minds (x .kind) ≡ true
-      → All (λ (r : Report). takerOf r ≡ x .number → ⊥) (eased k l .records ++ stirred k (eased k l .final) .records)
-  spared-both i x at mi =
-      all-append (λ (r : Report). takerOf r ≡ x .number → ⊥) (eased k l .records) (stirred k (eased k l .final) .records)
-      (complete-tells (Sound (k .m) top) (λ (r : Report). takerOf r ≡ x .number → ⊥) (ease-falls k mk .kept)
-      (λ s r t h e. ease-spares so i x at mi (ease-step k s e)) so run-one)
-      (complete-tells (All (Stems l)) (λ (r : Report). takerOf r ≡ x .number → ⊥) (λ s r t h e. stir-keeps (stems-kept l) (stir-step k s e) h)
-      (λ s r t h e. stir-spares so i x at mi h (stir-step k s e)) stems-one run-two)
+  spared-both : (n : ℕ) → 1 ≤ n → All (Minding n) l
+      → All (λ (r : Report). takerOf r ≡ n → ⊥) (eased k l .records ++ stirred k (eased k l .final) .records)
+  spared-both n some a =
+      all-append (λ (r : Report). takerOf r ≡ n → ⊥) (eased k l .records) (stirred k (eased k l .final) .records)
+      (complete-tells (All (Minding n)) (λ (r : Report). takerOf r ≡ n → ⊥) (λ s r t h e. ease-keeps (minding-kept n some) (ease-step k s e) h)
+      (λ s r t h e. ease-spares n some (ease-step k s e)) a run-one)
+      (complete-tells (All (Minding n)) (λ (r : Report). takerOf r ≡ n → ⊥) (λ s r t h e. stir-keeps (minding-kept n some) (stir-step k s e) h)
+      (λ s r t h e. stir-spares n some h (stir-step k s e))
+      (complete-keeps (All (Minding n)) (λ s r t h e. ease-keeps (minding-kept n some) (ease-step k s e) h) a run-one) run-two)
 
   settles-from : Settled k l top
   unfolding settled

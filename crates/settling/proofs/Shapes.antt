@@ -16,6 +16,7 @@ use Rattle.lists.specs.Places.{requeue}
 use Rattle.lists.specs.Choose.{Found, nowhere, found}
 use Rattle.lists.specs.Run.{stop, go}
 use Rattle.lists.proofs.Bools.{clash, and-left, and-right}
+use Rattle.lists.proofs.RunLaws.{never-goes, never-stops, same-step}
 use Rattle.lists.proofs.TestLaws.{all-of}
 use Rattle.lists.proofs.ChooseLaws.{Nobody, Chosen, Tells}
 use Rattle.packing.specs.declared.report.Report.{Report}
@@ -52,18 +53,6 @@ pub data StirStep (k : Market) (l : List Entry) : Report → List Entry → Type
       → StirStep k l (repriced (priced (restPrices k l e) e)) (requeue i (priced (restPrices k l e) e) l)
 
 -- ---- what a step that goes on did ----
-
-never-goes : {A : Type 0} {r : Report} {t : List Entry} → stop ≡ go r t → A
-never-goes e = let z : _≡_ {A = ℕ} 0 1 = cc in absurd (omega arith)
-
-never-stops : {A : Type 0} {r : Report} {t : List Entry} → go r t ≡ stop → A
-never-stops e = let z : _≡_ {A = ℕ} 0 1 = cc in absurd (omega arith)
-
-same-step : (P : Report → List Entry → Type 0) {r r′ : Report} {t t′ : List Entry} → P r t → go r t ≡ go r′ t′ → P r′ t′
-same-step P {r} {r′} {t} {t′} p e =
-    let a : r ≡ r′ = cc in
-    let b : t ≡ t′ = cc in
-    subst (λ (x : Report). P x t′) a (subst (λ (y : List Entry). P r y) b p)
 
 module _ (k : Market) (l : List Entry) where
   pub ease-step : {r : Report} {t : List Entry} → nextEase k l ≡ go r t → EaseStep k l r t

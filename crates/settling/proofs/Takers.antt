@@ -1,8 +1,8 @@
 -- A quote whose kind minds the contra price, MMALO, is never the taker of a trade in settling: "Letting MMALO take while settling" is among the things that
 -- students try and the code may not.
 -- Assumes nothing.
-use Prim.Native.Nat.{ℕ}
-use mathlib.Core.Path.{_≡_, refl, sym, subst, ap, _∙_}
+use Prim.Native.Nat.{ℕ, _≤_}
+use mathlib.Core.Path.{_≡_, refl, sym, subst}
 use mathlib.Core.Bool.{Bool, true, false}
 use mathlib.Core.List.{List}
 use native.Mathlib.Omega.{arith}
@@ -15,16 +15,16 @@ use Rattle.lists.specs.Places.{At}
 use Rattle.lists.specs.Tests.{All}
 use Rattle.lists.proofs.Bools.{clash}
 use Rattle.lists.proofs.PlaceLaws.{at-same}
-use Rattle.lists.proofs.TestLaws.{all-at}
+use Rattle.lists.proofs.TestLaws.{all-at, all-of}
 use Rattle.packing.specs.declared.report.Report.{Report}
 use Rattle.book.specs.declared.Entry.{Entry}
 use Rattle.book.specs.Look.{contra}
 use Rattle.sound.proofs.Facts.{Sound}
-use Rattle.sound.proofs.KeepLaws.{here-facts, each-two}
+use Rattle.sound.proofs.KeepLaws.{each-two}
 use Rattle.settling.specs.Tell.{takerOf}
 use Rattle.settling.specs.Settle.{aimsIn}
 use Rattle.settling.proofs.Shapes.{EaseStep, eased-at, StirStep, traded-at, moved-at}
-use Rattle.settling.proofs.Keeps.{Stems}
+use Rattle.settling.proofs.Keeps.{Kept, all-kept}
 
 -- two entries of one number are one entry
 pub one-number : {m top : ℕ} {l : List Entry} → Sound m top l → (i j : ℕ) (x y : Entry) → At l i x → At l j y → x .number ≡ y .number → x ≡ y
@@ -34,18 +34,22 @@ one-number {l = l} so i j x y a b q = go (eqb i j) refl
     go true e = at-same l j x y (subst (λ (n : ℕ). At l n x) (eqb-true i j e) a) b
     go false e = absurd (each-two so i j x y a b (eqb-false i j e) .other q)
 
--- x, an entry of the book that settling began with, minds the contra price
-module _ {m top : ℕ} {l₀ : List Entry} (so : Sound m top l₀) (i : ℕ) (x : Entry) (at : At l₀ i x) (mi : minds (x .kind) ≡ true) where
-  nobody : 0 ≡ x .number → ⊥
-  nobody e = omega (arith, here-facts so i x at .counted)
+-- an entry of that number minds the contra price: it is an MMALO
+abbrev pub Minding : ℕ → Entry → Type 0
+Minding n e = e .number ≡ n → minds (e .kind) ≡ true
 
-  pub ease-spares : {k : Market} {l t : List Entry} {r : Report} → EaseStep k l r t → takerOf r ≡ x .number → ⊥
-  ease-spares (eased-at c) e = nobody e
+pub minding-all : {m top : ℕ} {l : List Entry} → Sound m top l → (i : ℕ) (x : Entry) → At l i x → minds (x .kind) ≡ true → All (Minding (x .number)) l
+minding-all {l = l} so i x at mi =
+    all-of (Minding (x .number)) l (λ j z h q. subst (λ (y : Entry). minds (y .kind) ≡ true) (one-number so i j x z at h (sym q)) mi)
 
-  pub stir-spares : {k : Market} {l t : List Entry} {r : Report} → All (Stems l₀) l → StirStep k l r t → takerOf r ≡ x .number → ⊥
-  stir-spares {k} {l} st (traded-at {i = j} {e = e} c h b) q =
-      let s : Stems l₀ e = all-at (Stems l₀) l j e st (c .there) in
-      let same : s .was ≡ x = one-number so (s .place) i (s .was) x (s .there) at (s .number ∙ q) in
-      let kinds : x .kind ≡ e .kind = ap (λ (z : Entry). z .kind) (sym same) ∙ s .kind in
-      clash h (minding-rests (e .kind) (e .sell) (contra (e .sell) l) (aimsIn k l e) (subst (λ (n : ℕ). minds n ≡ true) kinds mi))
-  stir-spares st (moved-at c h) q = nobody q
+module _ (n : ℕ) (some : 1 ≤ n) where
+  pub minding-kept : Kept (All (Minding n))
+  minding-kept = all-kept (Minding n) (λ p e d h q. h q) (λ q e h z. h z)
+
+  pub ease-spares : {k : Market} {l t : List Entry} {r : Report} → EaseStep k l r t → takerOf r ≡ n → ⊥
+  ease-spares (eased-at c) e = omega (arith, some)
+
+  pub stir-spares : {k : Market} {l t : List Entry} {r : Report} → All (Minding n) l → StirStep k l r t → takerOf r ≡ n → ⊥
+  stir-spares {k} {l} a (traded-at {i = j} {e = e} c h b) q =
+      clash h (minding-rests (e .kind) (e .sell) (contra (e .sell) l) (aimsIn k l e) (all-at (Minding n) l j e a (c .there) q))
+  stir-spares a (moved-at c h) q = omega (arith, some)

@@ -1,0 +1,167 @@
+-- FOR THE CLASS: what holds of every message that is accepted, whatever its kind, from the book that it finds to the book that settling leaves.
+-- Assumes nothing.
+use Prim.Native.Nat.{ℕ, _+_, _≤_, _<_}
+use mathlib.Core.Path.{_≡_, refl, sym, ap, subst, _∙_}
+use mathlib.Core.Bool.{Bool, true, false, cond}
+use mathlib.Core.List.{List, _++_}
+use mathlib.Core.Logic.{_⊎_, inl, inr, ⊎-elim}
+use native.Mathlib.Omega.{arith}
+use lib.Dec.{eqb}
+use borrow.Author.Tests.{eq-eqb}
+use Rattle.prices.specs.declared.Prices.{Prices}
+use Rattle.prices.specs.Side.{reaches}
+use Rattle.prices.specs.Aims.{minds}
+use Rattle.prices.proofs.FrameLaws.{seen, reached}
+use Rattle.lists.specs.Places.{At}
+use Rattle.lists.specs.Tests.{All}
+use Rattle.lists.specs.Run.{Ran, still}
+use Rattle.lists.proofs.Bools.{clash, cond-either}
+use Rattle.lists.proofs.TestLaws.{all-at, all-map, all-append}
+use Rattle.packing.specs.declared.report.Report.{Report}
+use Rattle.packing.specs.declared.report.Report.the-variants.{Noted}
+use Rattle.book.specs.declared.Entry.{Entry}
+use Rattle.book.specs.Entries.{display, lessened}
+use Rattle.book.specs.Shape.{entriesOf}
+use Rattle.book.specs.Look.{entryOf, quoteIn}
+use Rattle.sound.proofs.Facts.{EntryFacts, Sound}
+use Rattle.sound.proofs.Decides.{is-sound}
+use Rattle.sound.proofs.KeepLaws.{here-facts}
+use Rattle.settling.specs.Tell.{takerOf}
+use Rattle.settling.specs.Stage.{andThen}
+use Rattle.settling.specs.Settle.{settled}
+use Rattle.settling.proofs.Keeps.{Stems, stems-start, stems-lessened, stems-through}
+use Rattle.settling.proofs.Takers.{one-number, Minding, minding-all}
+use Rattle.settling.proofs.Settles.{settles}
+use Rattle.arrival.specs.declared.Terms.{Terms}
+use Rattle.arrival.specs.Terms.{marketOf}
+use Rattle.arrival.specs.Cancel.{cancelEntry, cancelQuote, sweep}
+use Rattle.arrival.specs.Post.{resting}
+use Rattle.arrival.specs.Arrive.{told, arrived}
+use Rattle.arrival.proofs.ArriveTells.{arrived-says}
+use Rattle.arrival.proofs.CutLaws.{cut-all, quote-all}
+use Rattle.arrival.proofs.SweepLaws.{sweep-all}
+use Rattle.arrival.proofs.EnterLaws.{given-high, given-display}
+use Rattle.arrival.proofs.Afterwards.{arrived-all, cut-says, sweep-says}
+use Rattle.series.specs.declared.Series.{Series}
+use Rattle.handler.specs.declared.Ask.{Ask}
+use Rattle.handler.specs.Asked.{enters}
+use Rattle.handler.specs.Accept.{comer, own, termsAfter, settledIf, done}
+use Rattle.handler.proofs.Passed.{Accepted, facts, terms-legal}
+use Rattle.handler.proofs.Accepted.{own-sound, done-part}
+
+-- no report that says who took names this entry
+abbrev pub NotTaker : ℕ → Report → Type 0
+NotTaker n r = takerOf r ≡ n → ⊥
+
+module _ (s : Series) (a : Ask) where
+  abbrev t : Terms
+  t = s .terms
+
+  abbrev l : List Entry
+  l = entriesOf (s .book)
+
+  -- ---- the message's own part ----
+
+  -- who rests after it
+  own-all : (P : Entry → Type 0) → ((q : ℕ) (x : Entry) → P x → P (lessened q x)) → (enters a ≡ true → (left : ℕ) (p : Prices) → P (resting (comer (s .terms .given) a) left p))
+      → All P (entriesOf (s .book)) → All P (own (s .terms) a (entriesOf (s .book)) .final)
+  unfolding own
+  own-all P lessens posts h =
+      cond-either Rested (enters a) (arrived t (comer (t .given) a) l) _ (λ q. arrived-all t (comer (t .given) a) l P (λ n x k p. lessens n x p) (posts q) h)
+      (λ _. cond-either Rested (eqb (a .kind) 7) (cancelEntry (a .party) (a .entry) l) _ (λ _. cut-all 28 l P (entryOf (a .party) (a .entry) l) h)
+      (λ _. cond-either Rested (eqb (a .kind) 8) (cancelQuote (a .party) (a .sell) l) _ (λ _. quote-all 28 (a .party) (a .sell) l P h)
+      (λ _. cond-either Rested (eqb (a .kind) 11) (andThen (told Noted l) (sweep (a .quantity))) (told Noted l) (λ _. sweep-all (a .quantity) l P h) (λ _. h))))
+    where
+      Rested : Ran (List Entry) Report → Type 0
+      Rested x = All P (x .final)
+
+  -- who takes in it: the arriving entry alone, and no MMALO
+  own-spares : (n : ℕ) → 1 ≤ n → (enters a ≡ true → Minding n (comer (s .terms .given) a)) → All (NotTaker n) (own (s .terms) a (entriesOf (s .book)) .records)
+  unfolding own
+  own-spares n some m =
+      cond-either Spares (enters a) (arrived t (comer (t .given) a) l) _
+      (λ q. arrived-says t (comer (t .given) a) l (NotTaker n) (record {
+        rejects = λ p why z. omega arith;
+        cancels = λ p why side x o z. omega arith;
+        trades = λ mi y k z. clash (m q z) mi;
+        rests = λ left h z. omega arith;
+        stops = λ why left z. omega arith;
+      }))
+      (λ _. cond-either Spares (eqb (a .kind) 7) (cancelEntry (a .party) (a .entry) l) _ (λ _. cut-says l (NotTaker n) gone 28 (entryOf (a .party) (a .entry) l))
+      (λ _. cond-either Spares (eqb (a .kind) 8) (cancelQuote (a .party) (a .sell) l) _ (λ _. cut-says l (NotTaker n) gone 28 (quoteIn (a .party) (a .sell) l))
+      (λ _. cond-either Spares (eqb (a .kind) 11) (andThen (told Noted l) (sweep (a .quantity))) (told Noted l)
+      (λ _. (noted, sweep-says l (NotTaker n) gone (a .quantity))) (λ _. (noted, tt)))))
+    where
+      Spares : Ran (List Entry) Report → Type 0
+      Spares x = All (NotTaker n) (x .records)
+
+      gone : (why : ℕ) (x : Entry) → 0 ≡ n → ⊥
+      gone why x z = omega arith
+
+      noted : 0 ≡ n → ⊥
+      noted z = omega arith
+
+  module _ (ok : Accepted s a) where
+    so : Sound (s .terms .m) (s .terms .given) (entriesOf (s .book))
+    so = is-sound (t .m) (t .given) l (facts s a ok .terms .step) (facts s a ok .book .entries)
+
+    -- ---- "Sliding a display back when the away price falls" ----
+
+    -- what rests at the end was there after the message's own part,
+    settled-stems : All (Stems (own (s .terms) a (entriesOf (s .book)) .final)) (done (s .terms) a (entriesOf (s .book)) .final)
+    unfolding done still
+    settled-stems =
+        let r : List Entry = own t a l .final in
+        cond-either (λ (x : Ran (List Entry) Report). All (Stems r) (x .final)) (eqb (termsAfter t a .phase) 1) (settled (marketOf (termsAfter t a)) r) (still r)
+        (λ _. settles (own-sound s a ok) .stems) (λ _. stems-start r)
+
+    -- and then it is the new entry, or was there before
+    own-stems : All (λ (x : Entry). (x .number ≡ s .terms .given + 1) ⊎ Stems (entriesOf (s .book)) x) (own (s .terms) a (entriesOf (s .book)) .final)
+    own-stems =
+        own-all (λ (x : Entry). (x .number ≡ t .given + 1) ⊎ Stems l x) (λ q x. ⊎-elim (λ z. inl z) (λ u. inr (stems-lessened q x u))) (λ _ left p. inl refl)
+        (all-map (λ x u. inr u) l (stems-start l))
+
+    after : Sound (termsAfter (s .terms) a .m) (termsAfter (s .terms) a .given) (done (s .terms) a (entriesOf (s .book)) .final)
+    after = is-sound (termsAfter t a .m) (termsAfter t a .given) (done t a l .final) (terms-legal s a ok .step) (done-part s a ok .sound)
+
+    -- A DISPLAY NEVER MOVES BACK WHILE ITS QUOTE RESTS: the display of an entry that rests before and after a message is afterwards as aggressive as it was, or more
+    pub display-never-back : (i j : ℕ) (y x : Entry) → At (entriesOf (s .book)) i y → At (done (s .terms) a (entriesOf (s .book)) .final) j x → y .number ≡ x .number
+        → reaches (y .sell) (display x) (display y) ≡ true
+    display-never-back i j y x at there same =
+        let u : Stems (own t a l .final) x = all-at (Stems (own t a l .final)) (done t a l .final) j x settled-stems there in
+        ⊎-elim (λ z. absurd (omega (arith, here-facts so i y at .given, same, u .number, z))) (λ v. forward (stems-through x u v))
+        (all-at (λ (z : Entry). (z .number ≡ t .given + 1) ⊎ Stems l z) (own t a l .final) (u .place) (u .was) own-stems (u .there))
+      where
+        forward : Stems l x → reaches (y .sell) (display x) (display y) ≡ true
+        forward v =
+            let was : v .was ≡ y = one-number so (v .place) i (v .was) y (v .there) at (v .number ∙ sym same) in
+            let side : x .sell ≡ y .sell = sym (v .sell) ∙ ap (λ (z : Entry). z .sell) was in
+            reached (y .sell) (display x) (display y)
+            (omega (arith, given-high (given-display x (here-facts after j x there)))) (omega (arith, given-high (given-display y (here-facts so i y at))))
+            (subst (λ (b : Bool). seen b (display y) ≤ seen b (display x)) side (subst (λ (z : Entry). seen (x .sell) (display z) ≤ seen (x .sell) (display x)) was (v .forward)))
+
+    -- ---- "Letting MMALO take" ----
+
+    -- AN MMALO ADDS ONLY: in no report of a message, of its own part or of settling, is it the taker,
+    spares : (n : ℕ) → 1 ≤ n → All (Minding n) (entriesOf (s .book)) → (enters a ≡ true → Minding n (comer (s .terms .given) a))
+        → All (NotTaker n) (done (s .terms) a (entriesOf (s .book)) .records)
+    unfolding done still
+    spares n some h m =
+        let r : List Entry = own t a l .final in
+        all-append (NotTaker n) (own t a l .records) (settledIf (termsAfter t a) r .records) (own-spares n some m)
+        (cond-either (λ (x : Ran (List Entry) Report). All (NotTaker n) (x .records)) (eqb (termsAfter t a .phase) 1) (settled (marketOf (termsAfter t a)) r) (still r)
+        (λ _. settles (own-sound s a ok) .spared n some (own-all (Minding n) (λ q x z. z) (λ q left p. m q) h)) (λ _. tt))
+
+    pub record AddsOnly : Type 0 where
+      -- whether it rests when the message comes
+      pub resting : (i : ℕ) (y : Entry) → At (entriesOf (s .book)) i y → y .kind ≡ 3 → All (NotTaker (y .number)) (done (s .terms) a (entriesOf (s .book)) .records)
+      -- or is what the message brings
+      pub arriving : enters a ≡ true → a .kind ≡ 3 → All (NotTaker (s .terms .given + 1)) (done (s .terms) a (entriesOf (s .book)) .records)
+
+    pub adds-only : AddsOnly
+    unfolding minds
+    adds-only = record {
+      resting = λ i y at k. spares (y .number) (here-facts so i y at .counted) (minding-all so i y at (eq-eqb (y .kind) 3 k))
+          (λ q z. absurd (omega (arith, here-facts so i y at .given, z)));
+      arriving = λ q k. spares (t .given + 1) (omega arith) (all-map (λ x f z. absurd (omega (arith, f .given, z))) l (so .entries)) (λ _ _. eq-eqb (a .kind) 3 k);
+    }
