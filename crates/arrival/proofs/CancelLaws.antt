@@ -1,32 +1,28 @@
 -- Cancelling what a search found, by its rank; and that a cancellation for another reason asks no more.
 -- Assumes nothing.
 use Prim.Native.Nat.{ℕ, _<_}
-use mathlib.Core.Path.{_≡_, refl, sym, ap, _∙_}
+use mathlib.Core.Path.{_≡_, refl}
 use mathlib.Core.Bool.{Bool, true}
-use mathlib.Core.List.{List, [], _∷_}
+use mathlib.Core.List.{List}
 use native.Mathlib.Omega.{arith}
-use lib.ListN.{length, getD}
-use Rattle.lists.specs.Places.{At}
+use lib.ListN.{getD}
 use Rattle.lists.specs.Choose.{Found, nowhere, found}
-use Rattle.lists.specs.Run.{Ran, still}
 use Rattle.lists.proofs.PlaceLaws.{at-same, at-inside, at-getD}
 use Rattle.lists.proofs.ChooseLaws.{Tells}
-use Rattle.packing.specs.declared.report.Report.{Report}
 use Rattle.packing.specs.Codec.{packs}
 use Rattle.packing.specs.Report.{reports}
 use Rattle.packing.proofs.CodecLaws.{packs-fit, fit-packs}
 use Rattle.book.specs.declared.Entry.{Entry}
 use Rattle.book.specs.declared.Book.{Book}
 use Rattle.book.specs.declared.Rank.{Rank}
-use Rattle.book.specs.declared.Rank.the-variants.{At as AtRank, Nowhere}
-use Rattle.book.specs.Shape.{zeroEntry, entriesOf, WellFormed, Place}
+use Rattle.book.specs.Shape.{zeroEntry, entriesOf, WellFormed}
 use Rattle.book.specs.Entries.{quoteOf}
 use Rattle.book.specs.Look.{rankOf, quoteIn}
 use Rattle.book.proofs.ShapeLaws.{length-entries}
 use Rattle.book.proofs.LookLaws.{quote-tells}
 use Rattle.settling.specs.Tell.{cancelled}
 use Rattle.settling.specs.Stage.{Roomy, Staged}
-use Rattle.arrival.specs.Cancel.{cut, cutAt, cutRank, Inside, cutQuote, Asks, CutsRank}
+use Rattle.arrival.specs.Cancel.{cut, cutRank, Inside, cutQuote, Asks, CutsRank}
 use Rattle.settling.proofs.StageLaws.{staged-as}
 
 -- ---- what a search found goes, by its rank ----

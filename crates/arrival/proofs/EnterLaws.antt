@@ -1,12 +1,11 @@
 -- Laws of an arrival as code goes about it: what each of its parts finds, asks and leaves.
 -- Assumes nothing.
-use Prim.Native.Nat.{ℕ, zero, suc, _+_, _≤_, _<_}
-use mathlib.Core.Path.{_≡_, refl, sym, ap, _∙_, subst}
-use mathlib.Core.Bool.{Bool, true, false, cond, not, _&&_, _||_}
-use mathlib.Core.List.{List, [], _∷_, _++_}
+use Prim.Native.Nat.{ℕ, zero, suc, _≤_}
+use mathlib.Core.Path.{_≡_, refl, sym, ap, _∙_}
+use mathlib.Core.Bool.{Bool, true, false, cond, not, _&&_}
+use mathlib.Core.List.{List, [], _∷_}
 use native.Mathlib.Omega.{arith}
 use lib.Dec.{eqb}
-use lib.ListN.{length}
 use borrow.Author.Tests.{eqb-true}
 use Rattle.prices.specs.declared.Market.{Market}
 use Rattle.prices.specs.declared.Guard.{Guard}
@@ -15,14 +14,11 @@ use Rattle.prices.specs.Step.{mpv, given}
 use Rattle.prices.specs.Aims.{minds}
 use Rattle.prices.specs.Protect.{protection, Cents}
 use Rattle.prices.proofs.StepLaws.{Given, given-is, given-none, given-legal, is-legal}
-use Rattle.lists.specs.Tests.{All}
-use Rattle.lists.specs.Run.{Step, stop, go, Ran, still, leading, ran}
+use Rattle.lists.specs.Run.{Ran, still, leading, ran}
 use Rattle.lists.proofs.RunLaws.{run-stop, run-go}
 use Rattle.lists.proofs.Bools.{and-left}
 use Rattle.lists.proofs.TestLaws.{all-map}
 use Rattle.packing.specs.declared.report.Report.{Report}
-use Rattle.packing.specs.Room.{written}
-use Rattle.packing.proofs.RoomLaws.{written-none}
 use Rattle.book.specs.declared.Entry.{Entry}
 use Rattle.book.specs.declared.Book.{Book}
 use Rattle.book.specs.declared.Pricing.{Pricing}
@@ -31,7 +27,7 @@ use Rattle.book.specs.Entries.{quote, display, shownAs}
 use Rattle.book.specs.Look.{national}
 use Rattle.book.specs.Shape.{entriesOf, bookOf, WellFormed, Space}
 use Rattle.book.specs.Change.{post}
-use Rattle.book.proofs.ShapeLaws.{length-entries, book-of-entries, fits-64, entries-of-book, holds}
+use Rattle.book.proofs.ShapeLaws.{book-of-entries, fits-64}
 use Rattle.book.proofs.ChangeLaws.{post-fits}
 use Rattle.sound.proofs.Facts.{EntryFacts, PricedAs, Sound}
 use Rattle.sound.proofs.FrontLaws.{given-nearest, given-contra}
@@ -46,11 +42,10 @@ use Rattle.arrival.specs.Cancel.{Asks, cutQuote}
 use Rattle.settling.specs.Stage.{Put}
 use Rattle.arrival.specs.Take.{Taking, bound, nextTake, chances, taken, took}
 use Rattle.arrival.specs.Post.{pricesOf, resting, stopFor, Posts}
-use Rattle.arrival.specs.Arrive.{told, ofQuotes, bothQuotes, rejectedBy, replaced, posted, remainder, cancelledRest, finished, entered, noneTraded, stopsAtOnce, protectionFor, orElse, rejection, arrivedAs, arrived}
-use Rattle.arrival.specs.Asks.{Arriving, Enters, Arrives, Takes, TakesOn, TookAs, takingOf, tradeAs, NextTrade, Rests, Finishes}
-use Rattle.settling.proofs.StageLaws.{roomy-first, staged-list, staged-then, staged-room, staged-none, staged-as, staged-go, roomy-as}
-use Rattle.arrival.proofs.TakeLaws.{take-falls, took-length, took-sound}
-use Rattle.arrival.proofs.ArriveKeeps.{goesOn, replaced-stage}
+use Rattle.arrival.specs.Arrive.{told, ofQuotes, bothQuotes, rejectedBy, posted, remainder, cancelledRest, finished, entered, noneTraded, stopsAtOnce, protectionFor, orElse, rejection, arrivedAs, arrived}
+use Rattle.arrival.specs.Asks.{Arriving, Enters, tradeAs, NextTrade, Rests, Finishes}
+use Rattle.settling.proofs.StageLaws.{roomy-first, staged-then, staged-room, staged-none, staged-as, staged-go, roomy-as}
+use Rattle.arrival.proofs.TakeLaws.{take-falls}
 
 -- ---- the prices of a sound book before a sound market ----
 

@@ -1,55 +1,32 @@
 -- Laws of an arrival as the code goes about it: trades, an arrival that is not rejected, and either.
 -- Assumes nothing.
-use Prim.Native.Nat.{ℕ, zero, suc, _+_, _≤_, _<_}
-use mathlib.Core.Path.{_≡_, refl, sym, ap, _∙_, subst}
-use mathlib.Core.Bool.{Bool, true, false, cond, not, _&&_, _||_}
-use mathlib.Core.List.{List, [], _∷_, _++_}
+use Prim.Native.Nat.{ℕ}
+use mathlib.Core.Path.{_≡_, refl, sym, ap, subst}
+use mathlib.Core.Bool.{true, false}
+use mathlib.Core.List.{List}
 use native.Mathlib.Omega.{arith}
-use lib.Dec.{eqb}
 use lib.ListN.{length}
-use borrow.Author.Tests.{eqb-true}
 use Rattle.prices.specs.declared.Market.{Market}
-use Rattle.prices.specs.declared.Guard.{Guard}
-use Rattle.prices.specs.Side.{away}
-use Rattle.prices.specs.Step.{mpv, given}
+use Rattle.prices.specs.Step.{given}
 use Rattle.prices.specs.Aims.{minds}
-use Rattle.prices.specs.Protect.{protection, Cents}
-use Rattle.prices.proofs.StepLaws.{Given, given-is, given-none, given-legal, is-legal}
-use Rattle.lists.specs.Tests.{All}
-use Rattle.lists.specs.Run.{Step, stop, go, Ran, still, leading, ran}
-use Rattle.lists.proofs.RunLaws.{run-stop, run-go}
-use Rattle.lists.proofs.Bools.{and-left}
-use Rattle.lists.proofs.TestLaws.{all-map}
+use Rattle.lists.specs.Run.{Ran, still}
 use Rattle.packing.specs.declared.report.Report.{Report}
-use Rattle.packing.specs.Room.{written}
 use Rattle.packing.proofs.RoomLaws.{written-none}
 use Rattle.book.specs.declared.Entry.{Entry}
 use Rattle.book.specs.declared.Book.{Book}
-use Rattle.book.specs.declared.Pricing.{Pricing}
-use Rattle.book.specs.declared.Pricing.the-variants.{Fixed, Dark, Sliding}
-use Rattle.book.specs.Entries.{quote, display, shownAs}
-use Rattle.book.specs.Look.{national}
-use Rattle.book.specs.Shape.{entriesOf, bookOf, WellFormed, Space}
-use Rattle.book.specs.Change.{post}
-use Rattle.book.proofs.ShapeLaws.{length-entries, book-of-entries, entries-of-book, holds}
-use Rattle.book.proofs.ChangeLaws.{post-fits}
-use Rattle.sound.proofs.Facts.{EntryFacts, PricedAs, Sound}
-use Rattle.sound.proofs.FrontLaws.{given-nearest, given-contra}
-use Rattle.settling.specs.Tell.{rejected, traded, rested, cancelled}
-use Rattle.settling.specs.Stage.{soundMarket, Roomy, Staged, andThen}
-use Rattle.settling.proofs.EaseRule.{MarketFacts, market-facts}
-use Rattle.settling.proofs.Settles.{sound-for}
+use Rattle.book.specs.Shape.{entriesOf}
+use Rattle.book.proofs.ShapeLaws.{length-entries, book-of-entries}
+use Rattle.sound.proofs.Facts.{Sound}
+use Rattle.settling.specs.Stage.{Roomy, Staged, andThen}
 use Rattle.arrival.specs.declared.Terms.{Terms}
-use Rattle.arrival.specs.declared.take.Trade.{Trade}
-use Rattle.arrival.specs.Terms.{marketOf, guardOf}
-use Rattle.arrival.specs.Cancel.{Asks, cutQuote}
-use Rattle.settling.specs.Stage.{Put}
-use Rattle.arrival.specs.Take.{Taking, bound, nextTake, chances, taken, took}
-use Rattle.arrival.specs.Post.{pricesOf, resting, stopFor, Posts}
-use Rattle.arrival.specs.Arrive.{told, ofQuotes, bothQuotes, rejectedBy, replaced, posted, remainder, cancelledRest, finished, entered, noneTraded, stopsAtOnce, protectionFor, orElse, rejection, arrivedAs, arrived}
-use Rattle.arrival.specs.Asks.{Arriving, Enters, Arrives, Takes, TakesOn, TookAs, takingOf, tradeAs, NextTrade, Rests, Finishes}
-use Rattle.settling.proofs.StageLaws.{roomy-first, staged-list, staged-then, staged-room, staged-none, staged-as, roomy-as}
-use Rattle.arrival.proofs.TakeLaws.{take-falls, took-length, took-sound}
+use Rattle.arrival.specs.Terms.{marketOf}
+use Rattle.arrival.specs.Cancel.{Asks}
+use Rattle.arrival.specs.Take.{Taking, bound, taken, took}
+use Rattle.arrival.specs.Post.{stopFor}
+use Rattle.arrival.specs.Arrive.{rejectedBy, replaced, finished, entered, rejection, arrived}
+use Rattle.arrival.specs.Asks.{Arrives, Takes, TakesOn, TookAs, takingOf, Finishes}
+use Rattle.settling.proofs.StageLaws.{roomy-first, staged-list, staged-then, staged-room, staged-as, roomy-as}
+use Rattle.arrival.proofs.TakeLaws.{took-length, took-sound}
 use Rattle.arrival.proofs.ArriveKeeps.{goesOn, replaced-stage}
 use Rattle.arrival.proofs.EnterLaws.{arrived-enters, arrived-rejected, posts-of}
 

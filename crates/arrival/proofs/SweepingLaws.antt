@@ -6,7 +6,6 @@ use mathlib.Core.List.{List}
 use lib.ListN.{getD}
 use Rattle.lists.specs.Tests.{count}
 use Rattle.lists.specs.Choose.{found}
-use Rattle.lists.specs.Run.{stop}
 use Rattle.book.specs.declared.Book.{Book}
 use Rattle.book.specs.declared.Rank.the-variants as rank
 use Rattle.book.specs.Look.{rankOf, lowest}

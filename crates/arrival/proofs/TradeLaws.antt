@@ -1,16 +1,15 @@
 -- The next trade as code finds it, and the loop over it.
 -- Assumes nothing.
-use Prim.Native.Nat.{ℕ, _+_, _-_, _≤_, _<_, min}
+use Prim.Native.Nat.{ℕ, _+_, _-_, _<_, min}
 use mathlib.Core.Path.{_≡_, refl, sym, ap, _∙_}
 use mathlib.Core.Bool.{Bool, true, false, not, _&&_, _||_}
 use mathlib.Core.List.{List, [], _∷_}
 use native.Mathlib.Omega.{arith}
 use lib.Dec.{eqb}
-use lib.ListN.{length, getD}
+use lib.ListN.{getD}
 use Rattle.prices.specs.Side.{reaches}
-use Rattle.lists.specs.Choose.{Found, nowhere, found}
-use Rattle.lists.specs.Run.{Step, stop, go}
-use Rattle.packing.specs.declared.report.Report.{Report}
+use Rattle.lists.specs.Choose.{nowhere}
+use Rattle.lists.specs.Run.{stop, go}
 use Rattle.book.specs.declared.Entry.{Entry}
 use Rattle.packing.specs.Room.{written}
 use Rattle.book.specs.declared.Book.{Book}
@@ -23,7 +22,7 @@ use Rattle.settling.specs.Stage.{Roomy}
 use Rattle.book.specs.Look.{bestContra}
 use Rattle.arrival.specs.declared.take.Trade.{Trade}
 use Rattle.arrival.specs.Take.{Taking, shownOnly, nextTake, chances, taken}
-use Rattle.arrival.specs.Asks.{tradeAs, NextTrade, Takes, TookAs, takingOf}
+use Rattle.arrival.specs.Asks.{NextTrade, Takes, TookAs, takingOf}
 use Rattle.book.proofs.RankLaws.{Ranked}
 use Rattle.settling.proofs.GoingLaws.{Going, going-start, going-end, going-less, going-room, going-on}
 use Rattle.arrival.proofs.TakeLaws.{take-falls}

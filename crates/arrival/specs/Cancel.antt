@@ -1,7 +1,6 @@
 -- Cancelling: an entry goes, with a report of its own.
 -- Assumes nothing.
-use Prim.Native.Nat.{ℕ, _+_}
-use mathlib.Core.Path.{_≡_}
+use Prim.Native.Nat.{ℕ}
 use mathlib.Core.Bool.{Bool, true, false, cond}
 use mathlib.Core.List.{List, [], _∷_}
 use lib.Dec.{eqb}
@@ -11,7 +10,6 @@ use Rattle.lists.specs.Tests.{count}
 use Rattle.lists.specs.Choose.{Found, nowhere, found}
 use Rattle.lists.specs.Run.{Step, stop, go, Ran, still, ran}
 use Rattle.packing.specs.declared.report.Report.{Report}
-use Rattle.packing.specs.Room.{written}
 use Rattle.book.specs.declared.Entry.{Entry}
 use Rattle.book.specs.Entries.{quote}
 use Rattle.book.specs.declared.Book.{Book}

@@ -7,7 +7,6 @@ use book::entries::zero_entry;
 use book::look::best_contra;
 use prices::Market;
 use prices::aims::held_to;
-use prices::aims::is_minding;
 use prices::side::away_of;
 use prices::side::is_reaching;
 use settle::room::put;

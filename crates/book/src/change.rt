@@ -6,7 +6,7 @@ ghost use mathlib.Core.Path.{_≡_};
 ghost use mathlib.Core.List.{[]};
 ghost use lib.ListN.{set};
 ghost use Rattle.lists.specs.Places.{without, requeue};
-ghost use Rattle.book.specs.Shape.{entriesOf, bookOf, WellFormed, Place, TwoPlaces, Space};
+ghost use Rattle.book.specs.Shape.{entriesOf, bookOf, Place, TwoPlaces, Space};
 ghost use Rattle.book.specs.Change.{post, hit, hitBoth};
 
 pub fn empty() -> Book

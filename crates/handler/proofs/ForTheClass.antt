@@ -1,9 +1,9 @@
 -- FOR THE CLASS: what holds of every message that is accepted, whatever its kind, from the book that it finds to the book that settling leaves.
 -- Assumes nothing.
-use Prim.Native.Nat.{ℕ, _+_, _≤_, _<_}
+use Prim.Native.Nat.{ℕ, _+_, _≤_}
 use mathlib.Core.Path.{_≡_, refl, sym, ap, subst, _∙_}
-use mathlib.Core.Bool.{Bool, true, false, cond}
-use mathlib.Core.List.{List, _++_}
+use mathlib.Core.Bool.{Bool, true}
+use mathlib.Core.List.{List}
 use mathlib.Core.Logic.{_⊎_, inl, inr, ⊎-elim}
 use native.Mathlib.Omega.{arith}
 use lib.Dec.{eqb}
@@ -23,7 +23,7 @@ use Rattle.book.specs.declared.Entry.{Entry}
 use Rattle.book.specs.Entries.{display, lessened}
 use Rattle.book.specs.Shape.{entriesOf}
 use Rattle.book.specs.Look.{entryOf, quoteIn}
-use Rattle.sound.proofs.Facts.{EntryFacts, Sound}
+use Rattle.sound.proofs.Facts.{Sound}
 use Rattle.sound.proofs.Decides.{is-sound}
 use Rattle.sound.proofs.KeepLaws.{here-facts}
 use Rattle.settling.specs.Tell.{takerOf}

@@ -1,9 +1,9 @@
 -- Laws of a rule that is put to use until it is done. Where each step lowers the measure: the run computed is complete, it is the only one,
 -- and it has at most as many steps as the measure says. Nobody outside this file counts steps down.
 -- Assumes nothing.
-use Prim.Native.Nat.{ℕ, zero, suc, _+_, _≤_, _<_}
+use Prim.Native.Nat.{ℕ, zero, suc, _≤_, _<_}
 use mathlib.Core.Path.{_≡_, refl, sym, subst, ap, _∙_}
-use mathlib.Core.List.{List, [], _∷_}
+use mathlib.Core.List.{List}
 use native.Mathlib.Omega.{arith}
 use lib.ListN.{length}
 use Rattle.lists.specs.Run.{Step, stop, go, Complete, done, then, Ran, still, leading, runFor, ran}

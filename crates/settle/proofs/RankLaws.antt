@@ -1,7 +1,7 @@
 -- The searches of settling, by the ranks that they answered: who is eased, who stirs, and whom it trades with.
 -- Assumes nothing.
 use Prim.Native.Nat.{ℕ}
-use mathlib.Core.Path.{_≡_, refl, sym, subst, ap, _∙_, fun-ext}
+use mathlib.Core.Path.{_≡_, sym, subst, ap, _∙_, fun-ext}
 use mathlib.Core.Bool.{Bool, true, false}
 use mathlib.Core.List.{List}
 use Rattle.prices.specs.declared.Market.{Market}

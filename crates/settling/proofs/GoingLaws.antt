@@ -1,16 +1,16 @@
 -- A loop that puts a rule to use until it is done, writing each report behind the last: its invariant is that what is still to be written from here is
 -- what was to be written from the start. Every such loop cites these laws; a loop over a book, those at the end.
 -- Assumes nothing.
-use Prim.Native.Nat.{ℕ, _+_, _*_, _≤_, _<_}
+use Prim.Native.Nat.{ℕ, _+_, _<_}
 use mathlib.Core.Path.{_≡_, refl, sym, ap, _∙_}
-use mathlib.Core.List.{List, [], _∷_, _++_}
+use mathlib.Core.List.{List, [], _∷_}
 use native.Mathlib.Omega.{arith}
 use native.Mathlib.Nat.{add-zero}
 use lib.ListN.{length}
 use Rattle.lists.specs.Run.{Step, stop, go, Ran, still, leading, ran}
 use Rattle.lists.proofs.RunLaws.{Falls, run-stop, run-go}
 use Rattle.packing.specs.declared.report.Report.{Report}
-use Rattle.packing.specs.Room.{written, AllPack}
+use Rattle.packing.specs.Room.{written}
 use Rattle.packing.proofs.RoomLaws.{length-written, written-none, written-append}
 use Rattle.book.specs.declared.Entry.{Entry}
 use Rattle.book.specs.declared.Book.{Book}

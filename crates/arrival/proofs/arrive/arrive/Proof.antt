@@ -1,6 +1,6 @@
 use Rattle.book.specs.Shape.{entriesOf}
-use mathlib.Core.Path.{sym, ap, _∙_}
-use Rattle.settling.proofs.StageLaws.{staged-none, staged-as, roomy-as}
+use mathlib.Core.Path.{sym}
+use Rattle.settling.proofs.StageLaws.{staged-as}
 use Rattle.arrival.proofs.EnterLaws.{arrived-enters, arrived-rejected}
 use Rattle.arrival.proofs.EnteredLaws.{arrive-rejects, arrive-enters}
 use borrow.Author.Needs.{needs}

@@ -1,4 +1,3 @@
-use mathlib.Core.Path.{sym, ap, _∙_}
 use Rattle.book.specs.Shape.{entriesOf}
 use mathlib.Core.List.{[], _∷_}
 use Rattle.packing.specs.declared.report.Report.the-variants.{Noted}

@@ -1,7 +1,7 @@
-use borrow.Author.Tests.{le-leb, lt-leb, eq-eqb, ne-eqb, not-true, not-false}
+use borrow.Author.Tests.{eq-eqb, ne-eqb}
 use mathlib.Core.Path.{sym, ap, _∙_}
 use Rattle.book.specs.Shape.{entriesOf}
-use Rattle.settling.proofs.StageLaws.{roomy-as, staged-as, staged-none}
+use Rattle.settling.proofs.StageLaws.{staged-as, staged-none}
 use Rattle.handler.proofs.Stages.{settled-open, settled-shut}
 use Rattle.handler.proofs.AcceptLaws.{settle-open}
 use Rattle.settling.specs.Settle.{settled}
