@@ -33,7 +33,8 @@ packedAll-append (r ∷ rs) ss =
     ap (λ (l : List ℕ). bytesOf reports (codeOf r) ++ l) (packedAll-append rs ss)
     ∙ sym (append-assoc (bytesOf reports (codeOf r)) (packedAll rs) (packedAll ss))
 
-sets-append : (l : List ℕ) (i : ℕ) (vs ws : List ℕ) → sets l i (vs ++ ws) ≡ sets (sets l i vs) (i + length vs) ws
+-- one row of stores, and then another behind it
+pub sets-append : (l : List ℕ) (i : ℕ) (vs ws : List ℕ) → sets l i (vs ++ ws) ≡ sets (sets l i vs) (i + length vs) ws
 sets-append l i [] ws = ap (λ (k : ℕ). sets l k ws) (sym (add-zero i))
 sets-append l i (v ∷ vs) ws =
     sets-append (set l i v) (suc i) vs ws

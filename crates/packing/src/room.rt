@@ -7,7 +7,7 @@ ghost use Rattle.packing.specs.Room.{isPut, roomAfter};
 use crate::report::Report;
 
 // Stores the bytes of `part` from `start` on.
-fn store(room: &mut [u8], start: usize, part: &[u8])
+pub fn store(room: &mut [u8], start: usize, part: &[u8])
     requires { ⌜ start + length (now part) ≤ length (now room) ⌝ }
     ensures { λ _. ⌜ now (room .exit) ≡ sets (now (room .entry)) start (now (part .entry)) ⌝ }
 {

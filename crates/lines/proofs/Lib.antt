@@ -1,0 +1,5 @@
+pub mod DecimalLaws
+pub mod BufferLaws
+pub mod LineLaws
+pub mod AnswerLaws
+pub mod Examples

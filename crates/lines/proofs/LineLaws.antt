@@ -1,0 +1,77 @@
+-- The lines that are printed, part by part, and how long they are.
+use Prim.Native.Nat.{ℕ, suc, _+_, _-_, _*_, _/_, _≤_, _<_}
+use mathlib.Core.List.{List, [], _∷_, _++_}
+use mathlib.Core.Option.{Option, none}
+use mathlib.Core.Path.{_≡_, sym, ap, _∙_}
+use native.Mathlib.Numerals.{add-one}
+use native.Mathlib.Omega.{arith}
+use lib.ListN.{length, take, drop, getD, length-append, length-drop, drop-of-length-le}
+use lib.Seq.{drop-cons, drop-drop}
+use Rattle.packing.specs.declared.report.Report.{Report}
+use Rattle.packing.specs.declared.report.Unpacked.{Unpacked}
+use Rattle.packing.specs.Codec.{unpackOf}
+use Rattle.packing.specs.Report.{reports, fieldsOf, unpacked}
+use Rattle.packing.specs.Room.{readBack}
+use Rattle.packing.proofs.CodecLaws.{unpack-short}
+use Rattle.lines.specs.Decimal.{decimal}
+use Rattle.lines.specs.Lines.{space, spaced, reportLine, refusalLine, lineOf, reportLines}
+
+-- HOW LONG the lines are, by their parts
+pub report-length : (number : ℕ) (r : Report) → length (reportLine number r) ≡ length (decimal number) + length (spaced (fieldsOf r)) + 1
+unfolding reportLine
+report-length number r = simp length-append
+
+pub refusal-length : (number refusal : ℕ) → length (refusalLine number refusal) ≡ length (decimal number) + 9 + length (decimal refusal) + 1
+unfolding refusalLine
+refusal-length number refusal = simp length-append
+
+-- the next field, and the fields behind it
+pub next-field : (xs : List ℕ) (i : ℕ) → i < length xs → spaced (drop i xs) ≡ (space ∷ decimal (getD xs i 0)) ++ spaced (drop (i + 1) xs)
+next-field xs i h = ap spaced (drop-cons xs i 0 h ∙ ap (λ (k : ℕ). getD xs i 0 ∷ drop k xs) (sym (add-one i)))
+
+pub no-field : (xs : List ℕ) (i : ℕ) → length xs ≤ i → spaced (drop i xs) ≡ []
+no-field xs i h = ap spaced (drop-of-length-le xs h)
+
+-- what stands at a place of the room, and what is left from there on
+abbrev pub standsAt : List ℕ → ℕ → Option Report
+standsAt room k = unpackOf reports (take 14 (drop (14 * k) room))
+
+abbrev pub leftFrom : List ℕ → ℕ → ℕ → List (Option Report)
+leftFrom room count k = readBack (count - k) (drop (14 * k) room)
+
+pub no-place : (room : List ℕ) (k : ℕ) → length room / 14 ≤ k → standsAt room k ≡ none
+no-place room k h = unpack-short reports (drop (14 * k) room) (rw length-drop (omega arith))
+
+-- the part of the room that is handed to the unpacker
+pub place-part : (room : List ℕ) (k : ℕ) (u : Unpacked) → u ≡ unpacked (unpackOf reports (take (14 * k + 14 - 14 * k) (drop (14 * k) room))) → u ≡ unpacked (standsAt room k)
+place-part room k u h = h ∙ ap (λ (n : ℕ). unpacked (unpackOf reports (take n (drop (14 * k) room)))) long
+  where
+    long : 14 * k + 14 - 14 * k ≡ 14
+    long = omega arith
+
+pub next-place : (room : List ℕ) (count k : ℕ) → k < count → leftFrom room count k ≡ standsAt room k ∷ leftFrom room count (k + 1)
+next-place room count k h =
+    ap (λ (n : ℕ). readBack n (drop (14 * k) room)) fewer
+    ∙ ap (λ (l : List ℕ). standsAt room k ∷ readBack (count - (k + 1)) l) (drop-drop 14 (14 * k) room ∙ ap (λ (n : ℕ). drop n room) ahead)
+  where
+    fewer : count - k ≡ suc (count - (k + 1))
+    fewer = omega arith
+
+    ahead : 14 * k + 14 ≡ 14 * (k + 1)
+    ahead = omega arith
+
+pub next-line : (number : ℕ) (room : List ℕ) (count k : ℕ) → k < count
+    → reportLines number (leftFrom room count k) ≡ lineOf number (standsAt room k) ++ reportLines number (leftFrom room count (k + 1))
+next-line number room count k h = ap (reportLines number) (next-place room count k h)
+
+pub all-lines : (number : ℕ) (room : List ℕ) (count : ℕ) → reportLines number (readBack count room) ≡ reportLines number (leftFrom room count 0)
+all-lines number room count = ap (λ (n : ℕ). reportLines number (readBack n room)) all
+  where
+    all : count ≡ count - 0
+    all = omega arith
+
+pub no-line : (number : ℕ) (room : List ℕ) (count k : ℕ) → count ≤ k → reportLines number (leftFrom room count k) ≡ []
+no-line number room count k h = ap (λ (n : ℕ). reportLines number (readBack n (drop (14 * k) room))) none-left
+  where
+    none-left : count - k ≡ 0
+    none-left = omega arith

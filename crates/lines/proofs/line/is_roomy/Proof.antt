@@ -1,0 +1,17 @@
+use mathlib.Core.Path.{sym}
+use Rattle.lines.proofs.BufferLaws.{roomy-not, roomy-by}
+use Rattle.lines.proofs.line.is_roomy.Statement.{statement}
+use Rattle.lines.proofs.line.is_roomy.Tie as tie
+
+returns : tie.Need-returns
+returns c =
+    let a = c .before .args in
+    sym (roomy-not (a .size) (a .at) (a .lines) (c .if1 .taken))
+
+returns-2 : tie.Need-returns-2
+returns-2 c =
+    let a = c .before .args in
+    roomy-by (a .size) (a .at) (a .lines) (c .if1 .left)
+
+pub is-roomy-spec : {M : Type 1} → statement M
+is-roomy-spec = tie.close (tie.spec returns returns-2)

@@ -1,0 +1,27 @@
+-- The buffer that a caller lends for text.
+use Prim.Native.Nat.{ℕ, _+_, _*_}
+use mathlib.Core.Bool.{Bool, cond}
+use mathlib.Core.List.{List}
+use mathlib.Core.Path.{_≡_}
+use lib.Dec.{leb}
+use lib.ListN.{length}
+use lib.Seq.{sets}
+use Rattle.lines.specs.Lines.{answerText, linesOf}
+
+-- a text is put into a buffer: its bytes stand from `at` on, every other byte is as it was, and `end` is where it ends
+pub record Put (out : List ℕ) (at : ℕ) (text after : List ℕ) (end : ℕ) : Type 0 where
+  pub stored : after ≡ sets out at text
+  pub ends : end ≡ at + length text
+
+-- there are 120 bytes for each of so many lines from `at` on, and no line is longer: 20 digits of the message's number, nine fields of at
+-- most 10 digits with a space before each, and the line's end
+unfoldable pub roomy : ℕ → ℕ → ℕ → Bool
+roomy size at lines = leb (at + 120 * lines) size
+
+-- WHERE THE TEXT ENDS, AND THE BUFFER AFTERWARDS: the text stored from `at` on; 0, and the buffer as it was, where it might be too short
+unfoldable pub printed : List ℕ → ℕ → ℕ → List ℕ → ℕ × List ℕ
+printed out at lines text = cond (roomy (length out) at lines) (at + length text, sets out at text) (0, out)
+
+-- the same of what is printed for a message
+abbrev pub answered : List ℕ → ℕ → ℕ → ℕ → ℕ → List ℕ → ℕ × List ℕ
+answered out at number refusal count room = printed out at (linesOf refusal count) (answerText number refusal count room)

@@ -1,0 +1,119 @@
+// One line for each report, and one for a refusal.
+ghost use Prim.Native.Nat.{_+_, _*_, _≤_};
+ghost use mathlib.Core.Path.{_≡_};
+ghost use lib.ListN.{length, take, drop};
+ghost use Rattle.packing.specs.Codec.{unpackOf};
+ghost use Rattle.packing.specs.Report.{reports};
+ghost use Rattle.packing.specs.Room.{readBack};
+ghost use Rattle.lines.specs.Lines.{spaced, reportLine, refusalLine, lineOf, reportLines};
+ghost use Rattle.lines.specs.Buffer.{Put, roomy, answered};
+use crate::text::put_field;
+use crate::text::put_number;
+use packing::report::Report;
+use packing::report::Unpacked;
+use packing::report::fields_of;
+use packing::report::unpack;
+use packing::room::store;
+
+// The fields, each with a space before it.
+fn put_fields(out: &mut [u8], at: usize, fields: [u32; 9]) -> usize
+    requires { ⌜ at + length (spaced fields) ≤ length (now out) ⌝ }
+    ensures { λ r. ⌜ Put (now (out .entry)) at (spaced fields) (now (out .exit)) r ⌝ }
+{
+    let mut end = at;
+    let mut i = 0usize;
+    while i < 9 {
+        end = put_field(out, end, fields[i]);
+        i += 1;
+    }
+    end
+}
+
+// The message's number and the report's nine fields, one space between.
+fn put_report(out: &mut [u8], at: usize, number: u64, report: Report) -> usize
+    requires { ⌜ at + length (reportLine number report) ≤ length (now out) ⌝ }
+    ensures { λ r. ⌜ Put (now (out .entry)) at (reportLine number report) (now (out .exit)) r ⌝ }
+{
+    let fields = fields_of(report);
+    let start = put_number(out, at, number);
+    let end = put_fields(out, start, fields);
+    out[end] = b'\n';
+    end + 1
+}
+
+// The report at a place of the room; no line where none stands there.
+fn put_place(out: &mut [u8], at: usize, number: u64, room: &[u8], k: usize) -> usize
+    requires { ⌜ at + length (lineOf number (unpackOf reports (take 14 (drop (14 * k) (now room))))) ≤ length (now out) ⌝ }
+    ensures { λ r. ⌜ Put (now (out .entry)) at (lineOf number (unpackOf reports (take 14 (drop (14 * k) (now (room .entry)))))) (now (out .exit)) r ⌝ }
+{
+    if room.len() / 14 <= k {
+        return at;
+    }
+    let from = 14 * k;
+    let to = from + 14;
+    let Unpacked::Told(report) = unpack(&room[from..to]) else {
+        return at;
+    };
+    put_report(out, at, number, report)
+}
+
+fn put_reports(out: &mut [u8], at: usize, number: u64, count: usize, room: &[u8]) -> usize
+    requires { ⌜ at + length (reportLines number (readBack count (now room))) ≤ length (now out) ⌝ }
+    ensures { λ r. ⌜ Put (now (out .entry)) at (reportLines number (readBack count (now (room .entry)))) (now (out .exit)) r ⌝ }
+{
+    let mut end = at;
+    let mut k = 0usize;
+    while k < count {
+        end = put_place(out, end, number, room, k);
+        k += 1;
+    }
+    end
+}
+
+// The message's number, `refused`, the refusal.
+fn put_refusal(out: &mut [u8], at: usize, number: u64, refusal: u32) -> usize
+    requires { ⌜ at + length (refusalLine number refusal) ≤ length (now out) ⌝ }
+    ensures { λ r. ⌜ Put (now (out .entry)) at (refusalLine number refusal) (now (out .exit)) r ⌝ }
+{
+    let start = put_number(out, at, number);
+    store(out, start, b" refused ");
+    let end = put_number(out, start + 9, refusal as u64);
+    out[end] = b'\n';
+    end + 1
+}
+
+// Whether a buffer of so many bytes has room for so many lines from `at` on.
+fn is_roomy(size: usize, at: usize, lines: usize) -> bool
+    ensures { λ r. ⌜ r ≡ roomy size at lines ⌝ }
+{
+    if size < at {
+        return false;
+    }
+    lines <= (size - at) / 120
+}
+
+// What is printed for message `number`: its refusal, or a line for each of the first `count` reports of the room. Answers where it ends;
+// where the buffer may be too short for it, the buffer stays as it was, and the answer is 0.
+pub fn answer_lines(
+    out: &mut [u8],
+    at: usize,
+    number: u64,
+    refusal: u32,
+    count: usize,
+    room: &[u8],
+) -> usize
+    ensures { λ r. ⌜ r ≡ answered (now (out .entry)) at number refusal count (now (room .entry)) .0 ⌝ }
+    ensures { λ _. ⌜ now (out .exit) ≡ answered (now (out .entry)) at number refusal count (now (room .entry)) .1 ⌝ }
+{
+    let size = out.len();
+    if refusal != 0 {
+        if !is_roomy(size, at, 1) {
+            return 0;
+        }
+        return put_refusal(out, at, number, refusal);
+    }
+    if !is_roomy(size, at, count) {
+        return 0;
+    }
+    put_reports(out, at, number, count, room)
+}
