@@ -46,6 +46,7 @@ use Rattle.series.specs.declared.Series.{Series}
 use Rattle.handler.specs.declared.Ask.{Ask}
 use Rattle.handler.specs.Asked.{enters}
 use Rattle.handler.specs.Accept.{comer, own, termsAfter, settledIf, done}
+use Rattle.series.proofs.TermsLaws.{step-mpv}
 use Rattle.handler.proofs.Passed.{Accepted, facts, terms-legal}
 use Rattle.handler.proofs.Accepted.{own-sound, done-part}
 
@@ -103,7 +104,7 @@ module _ (s : Series) (a : Ask) where
 
   module _ (ok : Accepted s a) where
     so : Sound (s .terms .m) (s .terms .given) (entriesOf (s .book))
-    so = is-sound (t .m) (t .given) l (facts s a ok .terms .step) (facts s a ok .book .entries)
+    so = is-sound (t .m) (t .given) l (facts s a ok .step) (facts s a ok .entries)
 
     -- ---- "Sliding a display back when the away price falls" ----
 
@@ -122,7 +123,7 @@ module _ (s : Series) (a : Ask) where
         (all-map (λ x u. inr u) l (stems-start l))
 
     after : Sound (termsAfter (s .terms) a .m) (termsAfter (s .terms) a .given) (done (s .terms) a (entriesOf (s .book)) .final)
-    after = is-sound (termsAfter t a .m) (termsAfter t a .given) (done t a l .final) (terms-legal s a ok .step) (done-part s a ok .sound)
+    after = is-sound (termsAfter t a .m) (termsAfter t a .given) (done t a l .final) (step-mpv (terms-legal s a ok .step)) (done-part s a ok .sound)
 
     -- A DISPLAY NEVER MOVES BACK WHILE ITS QUOTE RESTS: the display of an entry that rests before and after a message is afterwards as aggressive as it was, or more
     pub display-never-back : (i j : ℕ) (y x : Entry) → At (entriesOf (s .book)) i y → At (done (s .terms) a (entriesOf (s .book)) .final) j x → y .number ≡ x .number

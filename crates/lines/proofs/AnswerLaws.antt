@@ -19,9 +19,11 @@ use Rattle.packing.specs.Room.{readBack, written, AllPack}
 use Rattle.packing.proofs.CodecLaws.{packs-fit, unpack-pack, packed-bytes}
 use Rattle.packing.proofs.ReportLaws.{lawful}
 use Rattle.packing.proofs.RoomLaws.{reports-read-back}
+use Rattle.io.specs.Counts.{Counts}
 use Rattle.lines.specs.Decimal.{decimal}
 use Rattle.lines.specs.Lines.{space, spaced, reportLine, refusalLine, lineOf, reportLines, answerText, linesOf}
 use Rattle.lines.specs.Buffer.{Put, roomy, printed, answered}
+use Rattle.lines.proofs.Counting.{counts}
 use Rattle.lines.proofs.DecimalLaws.{decimal-length}
 use Rattle.lines.proofs.BufferLaws.{printed-there, printed-nowhere, printed-length, printed-fits}
 use Rattle.lines.proofs.LineLaws.{report-length, refusal-length}
@@ -138,6 +140,13 @@ pub answer-fits : (out : List ℕ) (at number refusal count : ℕ) (room : List 
     → answered out at number refusal count room .0 ≤ length out
 answer-fits out at number refusal count room n r b =
     printed-fits out at (linesOf refusal count) (answerText number refusal count room) (answer-short number refusal count room n r b)
+
+-- so the bytes up to its end can be lent
+pub answered-counts : (out : List ℕ) (at number refusal count : ℕ) (room : List ℕ) {after : List ℕ} {end : ℕ} → number < 2 ^ 64 → refusal < 2 ^ 32 → Bytes room
+    → (end ≡ answered out at number refusal count room .0) × (after ≡ answered out at number refusal count room .1)
+    → (end ≡ answered out at number refusal count room .0) × ((after ≡ answered out at number refusal count room .1) × Counts end after)
+answered-counts out at number refusal count room {after} {end} n r b p =
+    (p .0, (p .1, counts end after (omega (arith, p .0, ap length (p .1), answer-length out at number refusal count room, answer-fits out at number refusal count room n r b))))
 
 -- THEOREM. Of an accepted message whose reports stand in the room the lines of just these reports are printed, in their order
 pub answer-reports : (number : ℕ) (room : List ℕ) (rs : List Report) → AllPack rs → 14 * length rs ≤ length room

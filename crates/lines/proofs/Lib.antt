@@ -1,3 +1,4 @@
+pub mod Counting
 pub mod DecimalLaws
 pub mod BufferLaws
 pub mod LineLaws

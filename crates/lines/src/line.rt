@@ -1,4 +1,5 @@
 // One line for each report, and one for a refusal.
+ghost use Rattle.io.specs.Counts.{Counts};
 ghost use Prim.Native.Nat.{_+_, _*_, _≤_};
 ghost use mathlib.Core.Path.{_≡_};
 ghost use lib.ListN.{length, take, drop};
@@ -104,6 +105,7 @@ pub fn answer_lines(
 ) -> usize
     ensures { λ r. ⌜ r ≡ answered (now (out .entry)) at number refusal count (now (room .entry)) .0 ⌝ }
     ensures { λ _. ⌜ now (out .exit) ≡ answered (now (out .entry)) at number refusal count (now (room .entry)) .1 ⌝ }
+    ensures { λ r. ⌜ Counts r (now (out .exit)) ⌝ }
 {
     let size = out.len();
     if refusal != 0 {

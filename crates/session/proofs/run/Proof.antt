@@ -1,30 +1,52 @@
-use lib.ListN.{length}
-use mathlib.Core.Path.{_≡_}
 use Prim.Native.Nat.{_≤_, _-_}
+use mathlib.Core.Path.{_≡_}
+use lib.ListN.{length}
 use borrow.Author.Needs.{needs}
 use Rattle.session.proofs.run.Statement.{statement}
 use Rattle.session.proofs.run.Tie as tie
-use Rattle.session.proofs.run.Reads as reads
-use Rattle.session.proofs.run.Lts as lts
-use Rattle.session.proofs.turn.Reads as turn-reads
 
 abbrev Inv-loop : tie.InvT-loop
-Inv-loop room₀ series₀ number₀ room series number = (number ≤ 1000000000000000000) × (length room ≡ 31920)
+Inv-loop input₀ first count out₀ room₀ series₀ number₀ at₀ held₀ used₀ input out room series number at held used =
+    (number ≤ 1000000000000000000) × (at ≤ held) × (held ≤ length input) × (length input ≡ length input₀) × (length room ≡ 31920) × (used ≤ length out) × (length out ≡ length out₀)
 
 abbrev μ-loop : tie.MeasureT-loop
-μ-loop room₀ series₀ number₀ room series number = 1000000000000000000 - number
+μ-loop input₀ first count out₀ room₀ series₀ number₀ at₀ held₀ used₀ input out room series number at held used = 1000000000000000000 - number
 
 loop-holds : tie.Need-loop-holds Inv-loop μ-loop
 loop-holds c = search needs
 
-slice-aggregate-turn : tie.Need-slice-aggregate-turn Inv-loop μ-loop
-slice-aggregate-turn c = search needs
+ready-requires : tie.Need-ready-requires Inv-loop μ-loop
+ready-requires c κs = search needs
 
-turn-requires : tie.Need-turn-requires Inv-loop μ-loop
-turn-requires c κs = search needs
+same-length : tie.Need-same-length Inv-loop μ-loop
+same-length c = search needs
+
+same-length-2 : tie.Need-same-length-2 Inv-loop μ-loop
+same-length-2 c = search needs
 
 returns : tie.Need-returns Inv-loop μ-loop
 returns c = search needs
+
+slice-reshare-prefix-handle-at : tie.Need-slice-reshare-prefix-handle-at Inv-loop μ-loop
+slice-reshare-prefix-handle-at c = search needs
+
+slice-aggregate-handle-at : tie.Need-slice-aggregate-handle-at Inv-loop μ-loop
+slice-aggregate-handle-at c = search needs
+
+slice-aggregate-handle-at-2 : tie.Need-slice-aggregate-handle-at-2 Inv-loop μ-loop
+slice-aggregate-handle-at-2 c = search needs
+
+handle-at-requires : tie.Need-handle-at-requires Inv-loop μ-loop
+handle-at-requires c κs = search needs
+
+slice-aggregate-answer-lines : tie.Need-slice-aggregate-answer-lines Inv-loop μ-loop
+slice-aggregate-answer-lines c = search needs
+
+answer-lines-requires : tie.Need-answer-lines-requires Inv-loop μ-loop
+answer-lines-requires c κs = search needs
+
+place-behind-requires : tie.Need-place-behind-requires Inv-loop μ-loop
+place-behind-requires c κs = search needs
 
 add-number : tie.Need-add-number Inv-loop μ-loop
 add-number c = search needs
@@ -34,6 +56,12 @@ loop-less c = search needs
 
 loop-again : tie.Need-loop-again Inv-loop μ-loop
 loop-again c = search needs
+
+same-length-3 : tie.Need-same-length-3 Inv-loop μ-loop
+same-length-3 c = search needs
+
+same-length-4 : tie.Need-same-length-4 Inv-loop μ-loop
+same-length-4 c = search needs
 
 returns-2 : tie.Need-returns-2 Inv-loop μ-loop
 returns-2 c = search needs
@@ -45,10 +73,20 @@ run-spec =
     Inv-loop
     μ-loop
     loop-holds
-    slice-aggregate-turn
-    turn-requires
+    ready-requires
+    same-length
+    same-length-2
     returns
+    slice-reshare-prefix-handle-at
+    slice-aggregate-handle-at
+    slice-aggregate-handle-at-2
+    handle-at-requires
+    slice-aggregate-answer-lines
+    answer-lines-requires
+    place-behind-requires
     add-number
     loop-less
     loop-again
+    same-length-3
+    same-length-4
     returns-2)

@@ -1,6 +1,6 @@
 use mathlib.Core.Path.{sym, _∙_}
 use borrow.Author.Tests.{not-true, not-false}
-use Rattle.lines.proofs.AnswerLaws.{accepted-text, refused-text, answered-room, answered-there, answered-nowhere}
+use Rattle.lines.proofs.AnswerLaws.{accepted-text, refused-text, answered-room, answered-there, answered-nowhere, answered-counts}
 use borrow.Author.Needs.{needs}
 use Rattle.lines.proofs.line.answer_lines.Statement.{statement}
 use Rattle.lines.proofs.line.answer_lines.Tie as tie
@@ -10,10 +10,13 @@ is-roomy-requires c κs = search needs
 
 returns : tie.Need-returns
 returns c =
-    let a = c .before .before .before .before .before .args in
-    answered-nowhere (a .out .now) (a .at) (a .number) (a .refusal) (a .count) (a .room .now) _ _
+    let s = c .before .before .before .before .before in
+    let a = s .args in
+    answered-counts (a .out .now) (a .at) (a .number) (a .refusal) (a .count) (a .room .now) (s .fits .number .fits) (s .fits .refusal .fits)
+    (λ i. c .before .before .before .shared-slice-known .given i .fits)
+    (answered-nowhere (a .out .now) (a .at) (a .number) (a .refusal) (a .count) (a .room .now) _ _
     (refused-text (a .number) (a .refusal) (a .count) (a .room .now) (c .before .before .if1 .taken))
-    (sym (c .before .is-roomy .ensures) ∙ not-true _ (c .if2 .taken))
+    (sym (c .before .is-roomy .ensures) ∙ not-true _ (c .if2 .taken)))
 
 put-refusal-requires : tie.Need-put-refusal-requires
 put-refusal-requires c κs =
@@ -31,21 +34,27 @@ same-length c = search needs
 
 returns-2 : tie.Need-returns-2
 returns-2 c =
-    let a = c .before .before .before .before .before .before .before .before .before .args in
-    answered-there (a .out .now) (a .at) (a .number) (a .refusal) (a .count) (a .room .now) _ _
+    let s = c .before .before .before .before .before .before .before .before .before in
+    let a = s .args in
+    answered-counts (a .out .now) (a .at) (a .number) (a .refusal) (a .count) (a .room .now) (s .fits .number .fits) (s .fits .refusal .fits)
+    (λ i. c .before .before .before .before .before .before .before .shared-slice-known .given i .fits)
+    (answered-there (a .out .now) (a .at) (a .number) (a .refusal) (a .count) (a .room .now) _ _
     (refused-text (a .number) (a .refusal) (a .count) (a .room .now) (c .before .before .before .before .before .before .if1 .taken))
     (sym (c .before .before .before .before .before .is-roomy .ensures) ∙ not-false _ (c .before .before .before .before .if2 .left))
-    (c .before .before .put-refusal .ensures)
+    (c .before .before .put-refusal .ensures))
 
 is-roomy-requires-2 : tie.Need-is-roomy-requires-2
 is-roomy-requires-2 c κs = search needs
 
 returns-3 : tie.Need-returns-3
 returns-3 c =
-    let a = c .before .before .before .before .before .args in
-    answered-nowhere (a .out .now) (a .at) (a .number) (a .refusal) (a .count) (a .room .now) _ _
+    let s = c .before .before .before .before .before in
+    let a = s .args in
+    answered-counts (a .out .now) (a .at) (a .number) (a .refusal) (a .count) (a .room .now) (s .fits .number .fits) (s .fits .refusal .fits)
+    (λ i. c .before .before .before .shared-slice-known .given i .fits)
+    (answered-nowhere (a .out .now) (a .at) (a .number) (a .refusal) (a .count) (a .room .now) _ _
     (accepted-text (a .number) (a .refusal) (a .count) (a .room .now) (c .before .before .if1 .left))
-    (sym (c .before .is-roomy2 .ensures) ∙ not-true _ (c .if3 .taken))
+    (sym (c .before .is-roomy2 .ensures) ∙ not-true _ (c .if3 .taken)))
 
 put-reports-requires : tie.Need-put-reports-requires
 put-reports-requires c κs =
@@ -63,11 +72,14 @@ same-length-2 c = search needs
 
 returns-4 : tie.Need-returns-4
 returns-4 c =
-    let a = c .before .before .before .before .before .before .before .before .before .args in
-    answered-there (a .out .now) (a .at) (a .number) (a .refusal) (a .count) (a .room .now) _ _
+    let s = c .before .before .before .before .before .before .before .before .before in
+    let a = s .args in
+    answered-counts (a .out .now) (a .at) (a .number) (a .refusal) (a .count) (a .room .now) (s .fits .number .fits) (s .fits .refusal .fits)
+    (λ i. c .before .before .before .before .before .before .before .shared-slice-known .given i .fits)
+    (answered-there (a .out .now) (a .at) (a .number) (a .refusal) (a .count) (a .room .now) _ _
     (accepted-text (a .number) (a .refusal) (a .count) (a .room .now) (c .before .before .before .before .before .before .if1 .left))
     (sym (c .before .before .before .before .before .is-roomy2 .ensures) ∙ not-false _ (c .before .before .before .before .if3 .left))
-    (c .before .before .put-reports .ensures)
+    (c .before .before .put-reports .ensures))
 
 pub answer-lines-spec : {M : Type 1} → statement M
 answer-lines-spec =
