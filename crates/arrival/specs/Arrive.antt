@@ -31,11 +31,12 @@ ofQuotes e f l = cond (quote e) (f l) (still l)
 
 -- ---- rejected ----
 
--- "24 cancels the same side; 25 and 26 cancel both of the maker's quotes", "buy first"; so does the rest of the list what 24 does: "the maker's resting
--- same-side quote is cancelled"
+-- "24 cancels the same side; 25 and 26 cancel both of the maker's quotes", "buy first"; 20 to 23 do as 24 does: "the maker's resting same-side quote is
+-- cancelled"
 abbrev pub bothQuotes : ℕ → Bool
 bothQuotes why = eqb why 25 || eqb why 26
 
+-- "30 own quote rejected"
 unfoldable pub rejectedBy : ℕ → Entry → List Entry → Ran (List Entry) Report
 rejectedBy why e l =
     andThen (told (rejected why e) l)
@@ -45,6 +46,7 @@ rejectedBy why e l =
 
 -- ---- not rejected: "A quote not rejected first removes the one it replaces." ----
 
+-- "27 replaced"
 abbrev pub replaced : Entry → List Entry → Ran (List Entry) Report
 replaced e l = ofQuotes e (cutQuote 27 (e .party) (e .sell)) l
 
@@ -66,6 +68,7 @@ remainder e left = record {
   pricing = e .pricing;
 }
 
+-- "29 opposite side"
 abbrev pub cancelledRest : ℕ → Entry → ℕ → List Entry → Ran (List Entry) Report
 cancelledRest why e left l = andThen (told (cancelled why (remainder e left)) l) (ofQuotes e (cutQuote 29 (e .party) (not (e .sell))))
 

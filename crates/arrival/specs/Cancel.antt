@@ -63,7 +63,7 @@ cancelEntry party number l = cut 28 l (entryOf party number l)
 abbrev pub cancelQuote : ℕ → Bool → List Entry → Ran (List Entry) Report
 cancelQuote party s l = cutQuote 28 party s l
 
--- "Phase 0 cancels everything, phase 2 every quote, phase 1 nothing"
+-- "Phase 0 cancels everything, phase 2 every quote, phase 1 nothing; a repeated phase does the same." The phase that the series is in is not asked
 abbrev pub swept : ℕ → Entry → Bool
 swept phase e = cond (eqb phase 0) true (cond (eqb phase 2) (quote e) false)
 

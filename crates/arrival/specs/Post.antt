@@ -49,7 +49,7 @@ unfoldable pub stopFor : Terms → Entry → List Entry → ℕ
 stopFor t e l =
     stopped (t .m) (t .k) (e .kind) (e .sell) (e .limit) (away (marketOf t) (e .sell)) (bars21 e l) (pricesOf t e l .display)
 
--- what the functions ask of their callers: a well-formed book of sound entries, and K as setup allows it
+-- what the functions ask of their callers: a well-formed book, K as setup allows it, an M that is listed, and an away and a contra price that are none or legal
 pub record Posts (t : Terms) (e : Entry) (b : Book) : Type 0 where
   pub well : WellFormed b
   pub steps : t .k ≤ 100

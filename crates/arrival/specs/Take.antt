@@ -21,7 +21,8 @@ pub record Taking : Type 0 where
   pub left : ℕ
   pub book : List Entry
 
--- "the lesser of L and A"
+-- "the lesser of L and A": "It never trades above A (a sell never below the away bid). The NBBO rule of 000 is measured on the away price, since the own book
+-- is served in price order."
 abbrev pub bound : Market → Entry → ℕ
 bound k e = upTo (e .sell) (away k (e .sell)) (e .limit)
 

@@ -1,4 +1,5 @@
 -- What the rules read off a series' numbers.
+-- No rule of document 01 stands here, only words for the rules and for contracts.
 -- Assumes nothing.
 use Prim.Native.Nat.{ℕ}
 use mathlib.Core.Bool.{Bool}

@@ -1,4 +1,5 @@
--- What one pass over a book answers: whether the book is sound, and what later stages need not look for again.
+-- What one pass over a book answers: whether the book is sound, and what the pass has seen on its way: best prices, displays, who has a quote. So far the test
+-- of a series uses the verdict and whether a quote rests (`ok`, `quoted`), and nothing uses the others.
 -- Assumes nothing.
 use Prim.Native.Nat.{ℕ, _+_, _≤_}
 use mathlib.Core.Path.{_≡_}

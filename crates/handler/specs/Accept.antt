@@ -34,7 +34,8 @@ comer given a = record {
   pricing = Fixed;
 }
 
--- THE MESSAGE'S OWN PART. Kinds 9 to 12 are noted; a phase then cancels: "Phase: noted, then 31s by entry."
+-- THE MESSAGE'S OWN PART. Kinds 9 to 12 are noted; a phase then cancels: "Phase: noted, then 31s by entry." "Underlying and enable of themselves move no entry;
+-- settling follows them too."
 unfoldable pub own : Terms → Ask → List Entry → Ran (List Entry) Report
 own t a l =
     cond (enters a) (arrived t (comer (t .given) a) l)
@@ -67,7 +68,7 @@ blockedAfter t a l blocked =
 abbrev pub settledIf : Terms → List Entry → Ran (List Entry) Report
 settledIf t l = cond (eqb (t .phase) 1) (settled (marketOf t) l) (still l)
 
--- THE WHOLE, on the entries that rest
+-- THE WHOLE, on the entries that rest. "Settling comes last."
 unfoldable pub done : Terms → Ask → List Entry → Ran (List Entry) Report
 done t a l = andThen (own t a l) (settledIf (termsAfter t a))
 

@@ -1,4 +1,5 @@
 -- What the functions of the handler ask of their callers, once the tests are passed.
+-- No rule of document 01 stands here, only words for contracts.
 -- Assumes nothing.
 use Prim.Native.Nat.{ℕ, _-_, _≤_}
 use mathlib.Core.Path.{_≡_}

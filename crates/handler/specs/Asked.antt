@@ -1,4 +1,5 @@
 -- What an event asks, in one shape.
+-- No rule of document 01 stands here but its numbers of kinds, only words for the refusals and for contracts.
 -- Assumes nothing.
 use Prim.Native.Nat.{ℕ}
 use mathlib.Core.Bool.{Bool, true, false, _&&_, _||_}

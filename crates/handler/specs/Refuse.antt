@@ -26,7 +26,8 @@ makersOnly a = quotes a || (eqb (a .kind) 8 || eqb (a .kind) 12)
 abbrev pub badParty : Ask → Bool
 badParty a = cond (makersOnly a) (not (between 1 16 (a .party))) (cond (leb (a .kind) 7) (not (between 1 99 (a .party))) false)
 
--- 3: "a price out of range or, but for the underlying, off the M grid (away: if not 0)"
+-- 3: "a price out of range or, but for the underlying, off the M grid (away: if not 0)". Each away price is tested by itself: "Crossed
+-- or locked away prices are accepted."
 abbrev pub badPrice : ℕ → Ask → Bool
 badPrice m a =
     cond (enters a) (not (legal m (a .price)))
@@ -72,7 +73,7 @@ abbrev pub firstHolding : List (ℕ × Bool) → ℕ
 firstHolding [] = 0
 firstHolding (t ∷ ts) = cond (t .1) (t .0) (firstHolding ts)
 
--- THE LIST, in document 01's order
+-- THE LIST, in document 01's order, from 2 on: 10, 11 and 1, which come before an event is known, stand in Handle (`beforeReading`, `heard`)
 abbrev pub refusals : Series → Ask → List (ℕ × Bool)
 refusals s a =
     (2, badParty a)

@@ -13,6 +13,7 @@ unfoldable pub marketable : ℕ → Bool → ℕ → Prices → Bool
 marketable kind s c aim = not (minds kind) && (not (eqb c 0) && reaches s (aim .working) c)
 
 -- "Resting, its display becomes the higher of its display and the aim; its working price the higher of that new display and the working aim."
+-- "An away offer that falls onto the display leaves it there (003, RPNP Example 4; ..)": the aim is then lower, and the display the higher of the two
 unfoldable pub resting : Bool → ℕ → Prices → Prices
 resting s d aim = record { display = keen s d (aim .display); working = keen s (keen s d (aim .display)) (aim .working) }
 

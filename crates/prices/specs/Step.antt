@@ -20,7 +20,7 @@ legal m p = leb m p && (leb p 100000 && onGrid m p)
 unfoldable pub given : ℕ → ℕ → Bool
 given m p = eqb p 0 || legal m p
 
--- one step back: a buy's price "-M", a sell's plus M
+-- one step back: a buy's price "-M", a sell's plus M. "An aim may fall one M outside the legal prices."
 unfoldable pub back : ℕ → Bool → ℕ → ℕ
 back m false p = p - m
 back m true p = p + m

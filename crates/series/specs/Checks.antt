@@ -1,4 +1,5 @@
 -- What the test of a series answers.
+-- No rule of document 01 stands here, only words for contracts.
 -- Assumes nothing.
 use Prim.Native.Nat.{ℕ}
 use mathlib.Core.Path.{_≡_}

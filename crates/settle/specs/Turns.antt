@@ -1,4 +1,5 @@
 -- What the functions of settling ask and ensure, turn by turn.
+-- No rule of document 01 stands here, only words for contracts.
 -- Assumes nothing.
 use Prim.Native.Nat.{ℕ, min}
 use mathlib.Core.Path.{_≡_}

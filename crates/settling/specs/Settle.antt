@@ -38,7 +38,8 @@ easing k e = easesAs k e (e .pricing)
 abbrev pub easedPrices : Market → Entry → Prices
 easedPrices k e = record { display = display e; working = easedTo (e .sell) (away k (e .sell)) (display e) (e .working) }
 
--- a change of price: the entry goes last in rank ("every change of either price"), and is reported
+-- a change of price: the entry goes last in rank ("every change of either price"), and is reported. "An easing that changes a price, a trade and a move are one
+-- step each.": here, and in `tradeAt`
 abbrev pub reprice : ℕ → Prices → Entry → List Entry → Step (List Entry) Report
 reprice i p e l = go (repriced (priced p e)) (requeue i (priced p e) l)
 
