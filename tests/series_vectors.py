@@ -65,6 +65,11 @@ def empty(step, **numbers):
     return series(book_of(step, 0, []), **numbers)
 
 
+def series_picture(s):
+    """The series in bytes."""
+    return struct.pack(">8I", *(s[name] for name in NUMBERS)) + bytes((s["put"], s["exempt"])) + bytes(s["blocked"]) + picture(s)
+
+
 cases = []
 
 
@@ -211,11 +216,15 @@ def mixed():
         case(other)
 
 
-def main():
+def every_case():
     for part in (setup, phases, prices, numbers, places, blocked, books, mixed):
         part()
-    data = [struct.pack(">8I", *(s[name] for name in NUMBERS)) + bytes((s["put"], s["exempt"])) + bytes(s["blocked"]) + picture(s) for s in cases]
-    write_table("series_vectors", data, ["sound" if is_sound_series(s) else "unsound" for s in cases], "series")
+    return cases
+
+
+def main():
+    every_case()
+    write_table("series_vectors", [series_picture(s) for s in cases], ["sound" if is_sound_series(s) else "unsound" for s in cases], "series")
 
 
 if __name__ == "__main__":

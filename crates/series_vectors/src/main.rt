@@ -1,9 +1,8 @@
 // Puts the series that tests/series_vectors.py writes to the soundness test, and prints the verdict on each on a line.
-mod layout;
-
 use libc::STDIN_FILENO;
 use libc::STDOUT_FILENO;
 use series::soundness::check_series;
+use series_bytes::series_of;
 
 fn tell(ok: bool) {
     if ok {
@@ -22,7 +21,7 @@ fn main() {
         if n < 1590 {
             return;
         }
-        let check = check_series(layout::series_of(&bytes));
+        let check = check_series(series_of(&bytes));
         tell(check.ok);
         told += 1;
     }

@@ -1,7 +1,7 @@
 use lib.Dec.{eqb}
 use borrow.Author.Needs.{needs}
-use Rattle.series_vectors.proofs.layout.terms_of.Statement.{statement}
-use Rattle.series_vectors.proofs.layout.terms_of.Tie as tie
+use Rattle.series_bytes.proofs.terms_of.Statement.{statement}
+use Rattle.series_bytes.proofs.terms_of.Tie as tie
 
 byte-at-requires : tie.Need-byte-at-requires
 byte-at-requires c κs = search needs

@@ -6,8 +6,8 @@ use lib.Dec.{eqb}
 use Rattle.reading.specs.Number.{byteAt}
 use Rattle.reading.proofs.RowLaws.{Filled, filled-none, filled-more, filled-all}
 use borrow.Author.Needs.{needs}
-use Rattle.series_vectors.proofs.layout.blocked_of.Statement.{statement}
-use Rattle.series_vectors.proofs.layout.blocked_of.Tie as tie
+use Rattle.series_bytes.proofs.blocked_of.Statement.{statement}
+use Rattle.series_bytes.proofs.blocked_of.Tie as tie
 
 abbrev Inv-loop : tie.InvT-loop
 Inv-loop bytes blocked₀ i₀ blocked i = (i ≤ 16) × Filled false (λ (k : ℕ). eqb (byteAt bytes (34 + k)) 1) 16 blocked i

@@ -1,5 +1,6 @@
-// A series in 1,590 bytes: M, K, strike, phase, away bid, away offer, underlying price and the last number given in 4 bytes each, a byte each for put and
-// exempt (1 is yes), 16 bytes for the makers (1 is blocked), and then the book (crate book_bytes).
+// A series in 1,590 bytes, for the test programs: M, K, strike, phase, away bid, away offer, underlying price and the last number given in 4
+// bytes each, a byte each for put and exempt (1 is yes), 16 bytes for the makers (1 is blocked), and then the book (crate book_bytes).
+// Nothing is judged: every picture is read, however damaged its series.
 use arrival::Terms;
 use book_bytes::book_of;
 use reading::byte_at;
@@ -8,7 +9,7 @@ use series::Series;
 ghost use mathlib.Core.Path.{_≡_};
 ghost use Prim.Native.Nat.{_≤_};
 ghost use lib.ListN.{length};
-ghost use Rattle.series_vectors.specs.Layout.{termsIn, blockedIn, seriesIn};
+ghost use Rattle.series_bytes.specs.Layout.{termsIn, blockedIn, seriesIn};
 
 fn terms_of(bytes: &[u8]) -> Terms
     ensures { λ r. ⌜ r ≡ termsIn (now (bytes .entry)) ⌝ }
@@ -39,7 +40,8 @@ fn blocked_of(bytes: &[u8]) -> [bool; 16]
     blocked
 }
 
-pub(crate) fn series_of(bytes: &[u8]) -> Series
+// The series that these bytes picture.
+pub fn series_of(bytes: &[u8]) -> Series
     requires { ⌜ 50 ≤ length (now bytes) ⌝ }
     ensures { λ r. ⌜ r ≡ seriesIn (now (bytes .entry)) ⌝ }
 {

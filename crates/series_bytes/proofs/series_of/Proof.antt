@@ -6,8 +6,8 @@ use lib.ListN.{length, take, drop, length-drop}
 use lib.Seq.{take-all}
 use Rattle.book_bytes.specs.Layout.{bookIn}
 use borrow.Author.Needs.{needs}
-use Rattle.series_vectors.proofs.layout.series_of.Statement.{statement}
-use Rattle.series_vectors.proofs.layout.series_of.Tie as tie
+use Rattle.series_bytes.proofs.series_of.Statement.{statement}
+use Rattle.series_bytes.proofs.series_of.Tie as tie
 
 terms-of-requires : tie.Need-terms-of-requires
 terms-of-requires c κs = search needs
