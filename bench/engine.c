@@ -1,0 +1,425 @@
+#include "engine.h"
+#include <string.h>
+
+/* ---- bytes ---- */
+
+static uint64_t load(const uint8_t *p, int n) {
+  uint64_t x = 0;
+  for (int i = 0; i < n; i++) x = x << 8 | p[i];
+  return x;
+}
+
+typedef struct {
+  uint32_t kind, party, sell, price, quantity, second, entry;
+} Ask;
+
+/* fields from the top of 88 bits: kind 4, party 7, side 1, price 17, quantity 17, second 17, entry 20, five zero bits */
+static int unpack(const uint8_t *p, Ask *a) {
+  uint64_t high = load(p, 8), low = load(p + 8, 3);
+  a->kind = high >> 60;
+  a->party = high >> 53 & 127;
+  a->sell = high >> 52 & 1;
+  a->price = high >> 35 & 131071;
+  a->quantity = high >> 18 & 131071;
+  a->second = high >> 1 & 131071;
+  a->entry = (high & 1) << 19 | low >> 5;
+  if (low & 31) return 0;
+  switch (a->kind) {
+    case 1: case 2: case 3: case 4: case 5: case 6: return !(a->second | a->entry);
+    case 7: return !(a->sell | a->price | a->quantity | a->second);
+    case 8: return !(a->price | a->quantity | a->second | a->entry);
+    case 9: return !(a->party | a->sell | a->quantity | a->entry);
+    case 10: return !(a->party | a->sell | a->quantity | a->second | a->entry);
+    case 11: return !(a->party | a->sell | a->price | a->second | a->entry);
+    case 12: return !(a->sell | a->price | a->quantity | a->second | a->entry);
+    default: return 0;
+  }
+}
+
+typedef struct {
+  uint8_t *at;
+  size_t count;
+} Out;
+
+/* kind 3 bits, reason 5, side 1, party 7, entry 20, other 20, price 17, second 17, quantity 17, five zero bits */
+static void report(Out *o, uint64_t kind, uint64_t reason, uint64_t sell, uint64_t party, uint64_t entry, uint64_t other, uint64_t price,
+                   uint64_t second, uint64_t quantity) {
+  uint64_t high = kind << 61 | reason << 56 | sell << 55 | party << 48 | entry << 28 | other << 8 | price >> 9;
+  uint64_t low = (price & 511) << 39 | second << 22 | quantity << 5;
+  uint8_t *p = o->at;
+  for (int i = 0; i < 8; i++) p[i] = high >> (56 - 8 * i);
+  for (int i = 0; i < 6; i++) p[8 + i] = low >> (40 - 8 * i);
+  o->at += REPORT;
+  o->count++;
+}
+
+int engine_setup(Series *s, const uint8_t *setup, size_t length) {
+  memset(s, 0, sizeof *s);
+  if (length != 4) return 1;
+  uint32_t x = load(setup, 4);
+  s->put = x >> 31;
+  s->exempt = x >> 30 & 1;
+  s->m = x >> 26 & 15;
+  s->k = x >> 19 & 127;
+  s->strike = x >> 2 & 131071;
+  return !((s->m == 1 || s->m == 5 || s->m == 10) && s->k <= 100 && 1 <= s->strike && s->strike <= 100000 && !(x & 3));
+}
+
+/* ---- prices ---- */
+
+static int on_grid(uint32_t m, uint32_t p) { return m == 1 || (m == 5 ? p % 5 == 0 : p % 10 == 0); }
+static int legal(uint32_t m, uint32_t p) { return m <= p && p <= 100000 && on_grid(m, p); }
+static int given(uint32_t m, uint32_t p) { return p == 0 || legal(m, p); }
+static int is_quote(const Entry *e) { return e->kind <= 4; }
+static int slides(uint32_t kind) { return kind == 3 || kind == 4; }
+/* a is at least as aggressive as b */
+static int reaches(int sell, int64_t a, int64_t b) { return sell ? a <= b : a >= b; }
+static int64_t keener(int sell, int64_t a, int64_t b) { return reaches(sell, a, b) ? a : b; }
+static int64_t meeker(int sell, int64_t a, int64_t b) { return reaches(sell, a, b) ? b : a; }
+static int64_t back(int sell, int64_t p, int64_t m) { return sell ? p + m : p - m; }
+static uint32_t away(const Series *s, int sell) { return sell ? s->bid : s->offer; }
+static int shown(const Entry *e) { return e->pricing == FIXED || (e->pricing == SLIDING && e->display == e->working); }
+static uint32_t display(const Entry *e) { return e->pricing == FIXED ? e->limit : e->display; }
+
+typedef struct {
+  int64_t display, working;
+} Aims;
+
+static Aims aims(uint32_t kind, int sell, int64_t limit, int64_t a, int64_t c, int64_t m) {
+  Aims r = {limit, limit};
+  if (a) {
+    r.display = meeker(sell, r.display, back(sell, a, m));
+    r.working = meeker(sell, r.working, a);
+  }
+  if (kind == 3 && c) {
+    r.display = meeker(sell, r.display, back(sell, c, m));
+    r.working = meeker(sell, r.working, back(sell, c, m));
+  }
+  return r;
+}
+
+/* ---- the book ---- */
+
+static uint32_t best_working(const Series *s, int sell) { /* of the entries on this side */
+  uint32_t best = 0;
+  for (uint32_t i = 0; i < s->count; i++) {
+    const Entry *e = &s->entries[i];
+    if (e->sell == sell && (!best || reaches(sell, e->working, best))) best = e->working;
+  }
+  return best;
+}
+
+static uint32_t national(const Series *s, int sell) { /* what a quote of this side faces */
+  uint32_t best = away(s, sell);
+  for (uint32_t i = 0; i < s->count; i++) {
+    const Entry *e = &s->entries[i];
+    if (e->sell == sell || e->pricing == DARK) continue;
+    uint32_t d = display(e);
+    if (!best || (sell ? d > best : d < best)) best = d;
+  }
+  return best;
+}
+
+static void take_out(Series *s, uint32_t i) {
+  s->count--;
+  memmove(&s->entries[i], &s->entries[i + 1], (s->count - i) * sizeof(Entry));
+  memset(&s->entries[s->count], 0, sizeof(Entry));
+}
+
+static void reprice(Series *s, uint32_t i, uint32_t shows, uint32_t works, Out *o) {
+  Entry e = s->entries[i];
+  e.display = shows;
+  e.working = works;
+  memmove(&s->entries[i], &s->entries[i + 1], (s->count - 1 - i) * sizeof(Entry));
+  s->entries[s->count - 1] = e;
+  report(o, 5, 0, e.sell, e.party, e.number, 0, e.display, e.working, e.quantity);
+}
+
+static void cancel(Series *s, uint32_t i, uint32_t why, Out *o) {
+  const Entry *e = &s->entries[i];
+  report(o, 6, why, e->sell, e->party, e->number, 0, e->limit, 0, e->quantity);
+  take_out(s, i);
+}
+
+static int quote_of(const Series *s, uint32_t party, int sell) {
+  for (uint32_t i = 0; i < s->count; i++) {
+    const Entry *e = &s->entries[i];
+    if (e->party == party && e->sell == sell && is_quote(e)) return i;
+  }
+  return -1;
+}
+
+static int best_contra(const Series *s, int sell, int shown_only) {
+  int best = -1, best_shown = 0;
+  uint32_t price = 0;
+  for (uint32_t i = 0; i < s->count; i++) {
+    const Entry *e = &s->entries[i];
+    if (e->sell == sell) continue;
+    int seen = shown(e);
+    if (shown_only && !seen) continue;
+    if (best < 0 || (sell ? e->working > price : e->working < price) || (e->working == price && seen && !best_shown)) {
+      best = i;
+      price = e->working;
+      best_shown = seen;
+    }
+  }
+  return best;
+}
+
+/* lowers the entry at a rank; answers whether it is gone */
+static int lower(Series *s, uint32_t i, uint32_t quantity) {
+  s->entries[i].quantity -= quantity;
+  if (s->entries[i].quantity) return 0;
+  take_out(s, i);
+  return 1;
+}
+
+/* ---- soundness ---- */
+
+static int sound_entry(const Series *s, const Entry *e) {
+  if (e->kind < 1 || e->kind > 6 || e->sell > 1 || !e->number || e->number > s->given) return 0;
+  if (!legal(s->m, e->limit) || !e->quantity || e->quantity > 99999) return 0;
+  if (!e->party || e->party > (is_quote(e) ? MAKERS : 99)) return 0;
+  if (slides(e->kind)) {
+    if (e->pricing != SLIDING || !legal(s->m, e->display) || !legal(s->m, e->working)) return 0;
+    int64_t gap = e->sell ? (int64_t)e->display - e->working : (int64_t)e->working - e->display;
+    return gap >= 0 && gap <= s->m && reaches(e->sell, e->limit, e->working);
+  }
+  return e->pricing == (e->kind == 6 ? DARK : FIXED) && !e->display && e->working == e->limit;
+}
+
+static int sound(const Series *s) {
+  static const Entry zero;
+  if (!(s->m == 1 || s->m == 5 || s->m == 10) || s->k > 100 || s->strike < 1 || s->strike > 100000 || s->phase > 2) return 0;
+  if (!given(s->m, s->bid) || !given(s->m, s->offer) || s->underlying > 100000 || s->given > 1000000 || s->count > PLACES) return 0;
+  if (s->phase == 0 && s->count) return 0;
+  uint32_t bid = 0, offer = UINT32_MAX, highest = 0, seats = 0, column[PLACES];
+  for (uint32_t i = 0; i < s->count; i++) {
+    const Entry *e = &s->entries[i];
+    if (!sound_entry(s, e)) return 0;
+    if (e->number > highest) {
+      highest = e->number;
+    } else {
+      for (uint32_t j = 0; j < i; j++)
+        if (column[j] == e->number) return 0;
+    }
+    column[i] = e->number;
+    if (is_quote(e)) {
+      uint32_t seat = 1u << (e->party - 1 + 16 * e->sell);
+      if (s->phase == 2 || seats & seat) return 0;
+      seats |= seat;
+    }
+    if (e->sell) {
+      if (e->working < offer) offer = e->working;
+    } else if (e->working > bid) {
+      bid = e->working;
+    }
+  }
+  if (bid >= offer) return 0;
+  for (uint32_t i = s->count; i < PLACES; i++)
+    if (memcmp(&s->entries[i], &zero, sizeof zero)) return 0;
+  return 1;
+}
+
+/* ---- settling ---- */
+
+static int lowest_easing(const Series *s) {
+  int found = -1;
+  for (uint32_t i = 0; i < s->count; i++) {
+    const Entry *e = &s->entries[i];
+    if (e->pricing != SLIDING || e->working == e->display) continue;
+    uint32_t a = away(s, e->sell);
+    if (!a || reaches(e->sell, a, e->working)) continue;
+    if (found < 0 || e->number < s->entries[found].number) found = i;
+  }
+  return found;
+}
+
+static void settle(Series *s, Out *o) {
+  for (int i; (i = lowest_easing(s)) >= 0;) {
+    const Entry *e = &s->entries[i];
+    reprice(s, i, e->display, keener(e->sell, e->display, away(s, e->sell)), o);
+  }
+  for (;;) {
+    int found = -1, marketable = 0;
+    Aims to = {0, 0};
+    uint32_t best[2] = {best_working(s, 0), best_working(s, 1)};
+    for (uint32_t i = 0; i < s->count; i++) {
+      const Entry *e = &s->entries[i];
+      if (e->pricing != SLIDING || (found >= 0 && e->number > s->entries[found].number)) continue;
+      uint32_t c = best[!e->sell];
+      Aims a = aims(e->kind, e->sell, e->limit, away(s, e->sell), c, s->m);
+      int takes = e->kind == 4 && c && reaches(e->sell, a.working, c);
+      a.display = keener(e->sell, e->display, a.display);
+      a.working = keener(e->sell, a.display, a.working);
+      if (!takes && a.display == e->display && a.working == e->working) continue;
+      found = i;
+      marketable = takes;
+      to = a;
+    }
+    if (found < 0) return;
+    if (!marketable) {
+      reprice(s, found, to.display, to.working, o);
+      continue;
+    }
+    Entry taker = s->entries[found];
+    int with = best_contra(s, taker.sell, 0);
+    Entry rests = s->entries[with];
+    uint32_t quantity = taker.quantity < rests.quantity ? taker.quantity : rests.quantity;
+    report(o, 3, 0, taker.sell, taker.party, taker.number, rests.number, rests.working, 0, quantity);
+    if (lower(s, with, quantity) && with < found) found--;
+    lower(s, found, quantity);
+  }
+}
+
+/* ---- arrival ---- */
+
+static uint32_t protection(const Series *s, int sell, uint32_t limit) {
+  if (!sell && !s->exempt) {
+    if (!s->put && s->underlying && limit >= s->underlying) return 25;
+    if (s->put && limit >= s->strike) return 26;
+  }
+  uint32_t best = national(s, sell);
+  if (!best) return 0;
+  if (!sell) {
+    if (best <= 100) return limit >= best + 100 ? 24 : 0;
+    return limit > best && 2 * (limit - best) >= best ? 24 : 0;
+  }
+  return best > 100 && limit < best && 2 * (best - limit) >= best ? 24 : 0;
+}
+
+/* why what is left of e may not rest; else its prices are set */
+static uint32_t stopped(const Series *s, Entry *e) {
+  uint32_t a = away(s, e->sell);
+  if (!slides(e->kind)) {
+    if (a && reaches(e->sell, e->limit, a)) return 20;
+    if (e->kind == 2)
+      for (uint32_t i = 0; i < s->count; i++) {
+        const Entry *x = &s->entries[i];
+        if (x->sell != e->sell && !shown(x) && reaches(e->sell, e->limit, x->working)) return 21;
+      }
+    e->pricing = e->kind == 6 ? DARK : FIXED;
+    e->working = e->limit;
+    return 0;
+  }
+  Aims to = aims(e->kind, e->sell, e->limit, a, best_working(s, !e->sell), s->m);
+  if (e->sell ? to.display > 100000 : to.display < s->m) return 23;
+  if ((e->sell ? to.display - e->limit : e->limit - to.display) > (int64_t)s->k * s->m) return 22;
+  e->pricing = SLIDING;
+  e->display = to.display;
+  e->working = to.working;
+  return 0;
+}
+
+static int next_trade(const Series *s, const Entry *e) {
+  if (e->kind == 3) return -1;
+  int i = best_contra(s, e->sell, e->kind == 2);
+  if (i < 0) return -1;
+  uint32_t p = s->entries[i].working, a = away(s, e->sell);
+  return reaches(e->sell, e->limit, p) && (!a || reaches(e->sell, a, p)) ? i : -1;
+}
+
+static void reject(Series *s, const Entry *e, uint32_t why, Out *o) {
+  report(o, 2, why, e->sell, e->party, e->number, 0, e->limit, 0, e->quantity);
+  int both = why == 25 || why == 26;
+  for (int sell = 0; sell < 2; sell++) {
+    int i = both || sell == e->sell ? quote_of(s, e->party, sell) : -1;
+    if (i >= 0) cancel(s, i, 30, o);
+  }
+  if (both) s->blocked[e->party - 1] = 1;
+}
+
+static void arrive(Series *s, Entry e, int replaced, Out *o) {
+  uint32_t why = is_quote(&e) ? protection(s, e.sell, e.limit) : 0;
+  if (why) return reject(s, &e, why, o);
+  int with = next_trade(s, &e);
+  if (with < 0) {
+    why = stopped(s, &e);
+    if (why && is_quote(&e)) return reject(s, &e, why, o);
+  }
+  if (replaced >= 0) {
+    cancel(s, replaced, 27, o);
+    if (with > replaced) with--;
+  }
+  int traded = with >= 0;
+  while (with >= 0 && e.quantity) {
+    Entry rests = s->entries[with];
+    uint32_t quantity = e.quantity < rests.quantity ? e.quantity : rests.quantity;
+    report(o, 3, 0, e.sell, e.party, e.number, rests.number, rests.working, 0, quantity);
+    lower(s, with, quantity);
+    e.quantity -= quantity;
+    if (e.quantity) with = next_trade(s, &e);
+  }
+  if (!e.quantity) return;
+  if (traded) why = stopped(s, &e);
+  if (!why) {
+    s->entries[s->count++] = e;
+    report(o, 4, 0, e.sell, e.party, e.number, 0, display(&e), e.working, e.quantity);
+    return;
+  }
+  report(o, 6, why, e.sell, e.party, e.number, 0, e.limit, 0, e.quantity);
+  int opposite = is_quote(&e) ? quote_of(s, e.party, !e.sell) : -1;
+  if (opposite >= 0) cancel(s, opposite, 29, o);
+}
+
+/* ---- the whole ---- */
+
+static void sweep(Series *s, Out *o) {
+  for (;;) {
+    int found = -1;
+    for (uint32_t i = 0; i < s->count; i++)
+      if ((s->phase == 0 || is_quote(&s->entries[i])) && (found < 0 || s->entries[i].number < s->entries[found].number)) found = i;
+    if (found < 0) return;
+    cancel(s, found, 31, o);
+  }
+}
+
+static int refusal(const Series *s, const Ask *a, int *place) {
+  int enters = a->kind <= 6, quotes = a->kind <= 4, makers = quotes || a->kind == 8 || a->kind == 12;
+  *place = -1;
+  if ((enters || a->kind == 7 || makers) && (!a->party || a->party > (makers ? MAKERS : 99))) return 2;
+  if (enters && !legal(s->m, a->price)) return 3;
+  if (a->kind == 9 && !(given(s->m, a->price) && given(s->m, a->second))) return 3;
+  if (a->kind == 10 && a->price > 100000) return 3;
+  if (enters && (!a->quantity || a->quantity > 99999)) return 4;
+  if (a->kind == 11 && a->quantity > 2) return 4;
+  if (enters && s->phase != 1) return 5;
+  if (quotes && s->blocked[a->party - 1]) return 6;
+  if (quotes || a->kind == 8) *place = quote_of(s, a->party, a->sell);
+  if (enters && s->count == PLACES && *place < 0) return 7;
+  if (enters && s->given == 1000000) return 9;
+  if (a->kind == 7)
+    for (uint32_t i = 0; i < s->count; i++)
+      if (s->entries[i].number == a->entry && s->entries[i].party == a->party) *place = i;
+  return (a->kind == 7 || a->kind == 8) && *place < 0 ? 8 : 0;
+}
+
+int engine_handle(Series *s, const uint8_t *message, size_t length, uint8_t *room, size_t space, size_t *count) {
+  Ask a;
+  int place;
+  *count = 0;
+  if (space < ROOM) return 10;
+  if (!sound(s)) return 11;
+  if (length != MESSAGE || !unpack(message, &a)) return 1;
+  int why = refusal(s, &a, &place);
+  if (why) return why;
+  Out o = {room, 0};
+  switch (a.kind) {
+    case 7: case 8: cancel(s, place, 28, &o); break;
+    case 9: s->bid = a.price; s->offer = a.second; report(&o, 1, 0, 0, 0, 0, 0, 0, 0, 0); break;
+    case 10: s->underlying = a.price; report(&o, 1, 0, 0, 0, 0, 0, 0, 0, 0); break;
+    case 11:
+      s->phase = a.quantity;
+      report(&o, 1, 0, 0, 0, 0, 0, 0, 0, 0);
+      if (s->phase != 1) sweep(s, &o);
+      break;
+    case 12: s->blocked[a.party - 1] = 0; report(&o, 1, 0, 0, 0, 0, 0, 0, 0, 0); break;
+    default: {
+      Entry e = {.number = ++s->given, .limit = a.price, .quantity = a.quantity, .party = a.party, .kind = a.kind, .sell = a.sell};
+      arrive(s, e, place, &o);
+    }
+  }
+  if (s->phase == 1) settle(s, &o);
+  *count = o.count;
+  return 0;
+}
