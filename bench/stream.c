@@ -1,4 +1,4 @@
-/* Writes a stream of messages to standard output: stream NAME COUNT. The engine is played along, so that a cancel can name what rests. */
+/* Writes a stream of messages to standard output: stream NAME COUNT [LESSON]. The engine is played along, so that a cancel can name what rests. */
 #include "engine.h"
 #include <stdio.h>
 #include <stdlib.h>
@@ -84,9 +84,40 @@ static void refusals(long count) {
   }
 }
 
+/* A lesson again and again, closed behind each time */
+static void again(long count, const char *path) {
+  static uint8_t lesson[1 << 16];
+  FILE *file = fopen(path, "rb");
+  if (!file) exit(2);
+  size_t length = fread(lesson, 1, sizeof lesson, file);
+  put(lesson, 4);
+  for (long sent = 0; sent < count;) {
+    for (size_t at = 4; at + MESSAGE <= length; at += MESSAGE, sent++) put(lesson + at, MESSAGE);
+    uint8_t close[MESSAGE] = {0xb0};
+    put(close, MESSAGE);
+    sent++;
+  }
+}
+
+/* A book that stays at a depth: away prices that move nothing, and an order that is cancelled and posted again */
+static void depth(long count, uint32_t deep) {
+  setup(0, 1, 1, 100, 20000);
+  send(11, 0, 0, 0, 1, 0, 0);
+  for (uint32_t i = 0; i < deep; i++) send(i % 4 == 3 ? 6 : 5, 20, i & 1, i & 1 ? 10001 + i : 9999 - i, 7, 0, 0);
+  for (long i = deep + 1; i < count; i += 3) {
+    const Entry *e = &s.entries[0];
+    send(9, 0, 0, 1 + below(50), 0, 50000 + below(50), 0);
+    uint32_t kind = e->kind, sell = e->sell, limit = e->limit;
+    send(7, 20, 0, 0, 0, 0, e->number);
+    send(kind, 20, sell, limit, 7, 0, 0);
+  }
+}
+
 int main(int argc, char **argv) {
-  if (argc != 3) return 2;
+  if (argc < 3) return 2;
   long count = atol(argv[2]);
+  if (argc == 4 && !strcmp(argv[1], "again")) return again(count, argv[3]), 0;
+  if (argc == 4 && !strcmp(argv[1], "depth")) return depth(count, atoi(argv[3])), 0;
   if (!strcmp(argv[1], "realistic")) realistic(count);
   else if (!strcmp(argv[1], "refusals")) refusals(count);
   else return 2;
