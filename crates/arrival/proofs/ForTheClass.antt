@@ -68,7 +68,7 @@ pub record TakesSame (t : Terms) (e : Entry) (l : List Entry) : Type 0 where
   -- and the maker may quote on
   pub unblocked : blocks t e l ≡ false
 
-one-side : (why : ℕ) → why ≤ 24 → bothQuotes why ≡ false
+pub one-side : (why : ℕ) → why ≤ 24 → bothQuotes why ≡ false
 one-side why h = rw (ne-eqb why 25 (λ q. omega arith), ne-eqb why 26 (λ q. omega arith)) refl
 
 rejected-is : (t : Terms) (e : Entry) (l : List Entry) → 1 ≤ rejection t e l → arrived t e l ≡ rejectedBy (rejection t e l) e l
@@ -113,7 +113,7 @@ pub record TakesBoth (t : Terms) (e : Entry) (l : List Entry) : Type 0 where
   -- and the maker is blocked
   pub blocked : blocks t e l ≡ true
 
-two-sides : (why : ℕ) → 25 ≤ why → why ≤ 26 → bothQuotes why ≡ true
+pub two-sides : (why : ℕ) → 25 ≤ why → why ≤ 26 → bothQuotes why ≡ true
 two-sides why low high = go (eqb why 25) refl
   where
     go : (b : Bool) → eqb why 25 ≡ b → (b || eqb why 26) ≡ true

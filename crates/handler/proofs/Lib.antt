@@ -6,6 +6,7 @@ pub mod HandleLaws
 pub mod AcceptLaws
 pub mod Refusals
 pub mod Demands
+pub mod Blocks
 pub mod Examples
 pub mod Worked
 pub mod ForTheClass

@@ -139,6 +139,10 @@ party-within a q h = by (makersOnly a) (rw q at h)
     by true g = let k = within 1 16 (a .party) g in (k .0, omega (arith, k .1))
     by false g = within 1 99 (a .party) g
 
+-- "kinds 1-4, 8, 12: outside 1-16"
+pub maker-within : (a : Ask) → makersOnly a ≡ true → badParty a ≡ false → (1 ≤ a .party) × (a .party ≤ 16)
+maker-within a q h = within 1 16 (a .party) (rw q at h)
+
 -- ---- an accepted message ----
 
 module _ (s : Series) (a : Ask) (ok : Accepted s a) where
