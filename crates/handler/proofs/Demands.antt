@@ -10,9 +10,10 @@ use native.Mathlib.Omega.{arith}
 use lib.Dec.{eqb}
 use lib.ListN.{length, take, drop, length-append, length-drop}
 use lib.Seq.{take-at, drop-append-seam}
-use borrow.Author.Tests.{eq-eqb}
+use borrow.Author.Tests.{eq-eqb, ne-eqb}
+use Rattle.prices.specs.declared.Market.{Market}
 use Rattle.lists.specs.Places.{At}
-use Rattle.lists.specs.Run.{stop, Ran, still}
+use Rattle.lists.specs.Run.{stop, Complete, Ran, still}
 use Rattle.packing.specs.declared.message.Event.{Event}
 use Rattle.packing.specs.declared.report.Report.{Report}
 use Rattle.packing.specs.Codec.{unpackOf}
@@ -23,7 +24,7 @@ use Rattle.packing.proofs.RoomLaws.{written-parts, reports-read-back}
 use Rattle.book.specs.declared.Entry.{Entry}
 use Rattle.book.specs.Shape.{entriesOf}
 use Rattle.book.proofs.ShapeLaws.{entries-of-book}
-use Rattle.settling.specs.Settle.{easing, stirring, nextEase, nextStir, settled}
+use Rattle.settling.specs.Settle.{easing, stirring, nextEase, nextStir, eased, stirred, settled}
 use Rattle.settling.proofs.Settles.{Settled, settles}
 use Rattle.arrival.specs.Terms.{marketOf}
 use Rattle.series.specs.declared.Series.{Series}
@@ -69,7 +70,7 @@ module _ (s : Series) (message room : List ℕ) (zero : handled s message room .
   pub reports-counted : handled s message room .answer .count ≡ length (reportsOf s (unpackOf messages message))
   reports-counted = ap (λ (h : Handled). h .answer .count) answer-is ∙ ap length (sym reports-are)
 
-  -- "An accepted message writes its counted reports at the front of the room and no byte beyond."
+  -- THEY STAND AT THE FRONT OF THE ROOM, AND NO BYTE BEYOND THEM IS TOUCHED
   pub reports-in-front : handled s message room .room
       ≡ packedAll (reportsOf s (unpackOf messages message)) ++ drop (14 * handled s message room .answer .count) room
   reports-in-front =
@@ -92,14 +93,25 @@ module _ (s : Series) (message room : List ℕ) (zero : handled s message room .
 
 -- ---- demand 3 ----
 
+-- a whole run of easing, and behind it a whole run of trades and moves
+pub record WholeRuns (k : Market) (l : List Entry) (x : Ran (List Entry) Report) : Type 0 where
+  pub reports : x .records ≡ eased k l .records ++ stirred k (eased k l .final) .records
+  pub easing-run : Complete (nextEase k) l (eased k l .records) (eased k l .final)
+  pub stirring-run : Complete (nextStir k) (eased k l .final) (stirred k (eased k l .final) .records) (x .final)
+
 -- of an answer h to what a asks of the series s; N is the number of entries that rest after the message's own part
 pub record Demand3 (s : Series) (a : Ask) (h : Handled) : Type 0 where
   -- at most N(N+5)/2 steps of settling
   pub steps : 2 * length (settlingOf s a .records) ≤ length (ownOf s a .final) * (length (ownOf s a .final) + 5)
-  -- one report each, behind those of the message's own part
+  -- one report each, behind those of the message's own part; the book left is the one that settling left
+  pub reports : done (s .terms) a (entriesOf (s .book)) .records ≡ ownOf s a .records ++ settlingOf s a .records
   pub count : h .answer .count ≡ length (ownOf s a .records) + length (settlingOf s a .records)
-  -- in an open series settling is done to its end: it is the whole run of easing, and behind it the whole run of trades and moves
-  pub whole : h .answer .series .terms .phase ≡ 1 → settlingOf s a ≡ settled (marketOf (h .answer .series .terms)) (ownOf s a .final)
+  pub entries : entriesOf (h .answer .series .book) ≡ settlingOf s a .final
+  -- "in an open series": in no other is anything settled
+  pub shut : (h .answer .series .terms .phase ≡ 1 → ⊥) → settlingOf s a ≡ still (ownOf s a .final)
+  -- in an open series settling is done to its end: its reports are those of easing, then those of trades and moves, and each of the two is a whole run of steps,
+  -- from the entries that it finds to those at which there is none
+  pub whole : h .answer .series .terms .phase ≡ 1 → WholeRuns (marketOf (h .answer .series .terms)) (ownOf s a .final) (settlingOf s a)
   -- afterwards no entry is marketable, off its resting prices, or to be eased
   pub calm : h .answer .series .terms .phase ≡ 1 → (i : ℕ) (x : Entry) → At (entriesOf (h .answer .series .book)) i x
       → stirring (marketOf (h .answer .series .terms)) (entriesOf (h .answer .series .book)) x ≡ false
@@ -119,12 +131,19 @@ module _ (s : Series) (a : Ask) (acc : Accepted s a) (room : List ℕ) where
   unfolding done
   left p = sym (entries-of-book (settlingOf s a .final) ∙ ap (λ (x : Ran (List Entry) Report). x .final) (open-settled p))
 
+  both-runs : WholeRuns (marketOf (termsAfter (s .terms) a)) (ownOf s a .final) (settled (marketOf (termsAfter (s .terms) a)) (ownOf s a .final))
+  unfolding settled
+  both-runs = record { reports = refl; easing-run = after .easing-run; stirring-run = after .stirring-run }
+
   demand-3-of : Demand3 s a (accepted s a room)
   unfolding done still
   demand-3-of = record {
     steps = few (eqb (termsAfter (s .terms) a .phase) 1) refl;
+    reports = refl;
     count = length-append (ownOf s a .records) (settlingOf s a .records);
-    whole = open-settled;
+    entries = entries-of-book (settlingOf s a .final);
+    shut = λ p. rw (ne-eqb (termsAfter (s .terms) a .phase) 1 p);
+    whole = λ p. subst (WholeRuns (marketOf (termsAfter (s .terms) a)) (ownOf s a .final)) (sym (open-settled p)) both-runs;
     calm = λ p. subst (λ (l : List Entry). (i : ℕ) (x : Entry) → At l i x → stirring (marketOf (termsAfter (s .terms) a)) l x ≡ false) (left p) (after .calm);
     uneased = λ p. subst (λ (l : List Entry). (i : ℕ) (x : Entry) → At l i x → easing (marketOf (termsAfter (s .terms) a)) x ≡ false) (left p) (after .uneased);
     stirs-no-more = λ p. subst (λ (l : List Entry). nextStir (marketOf (termsAfter (s .terms) a)) l ≡ stop) (left p) (after .stirs-no-more);
