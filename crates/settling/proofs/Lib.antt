@@ -5,6 +5,7 @@ pub mod Keeps
 pub mod Packs
 pub mod Takers
 pub mod Quiet
+pub mod Within
 pub mod Settles
 pub mod StageLaws
 pub mod GoingLaws

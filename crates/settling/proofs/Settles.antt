@@ -29,6 +29,7 @@ use Rattle.settling.proofs.EaseRule.{MarketFacts, market-facts, ease-fa
 use Rattle.settling.proofs.StirRule.{Easy, triangle-twice, triangle-mono, stir-falls, stir-length}
 use Rattle.settling.proofs.Keeps.{complete-tells, ease-keeps, stir-keeps, Stems, stems-start, stems-kept}
 use Rattle.settling.proofs.Packs.{Packs, all-pack, pack-append, ease-packs, stir-packs}
+use Rattle.settling.proofs.Within.{TradesWithin, ease-within, stir-within}
 use Rattle.settling.proofs.Takers.{Minding, minding-kept, ease-spares, stir-spares}
 
 -- what settling gives for entries l, numbered up to top, before the market k
@@ -52,6 +53,8 @@ pub record Settled (k : Market) (l : List Entry) (top : ℕ) : Type 0 where
   pub stems : All (Stems l) (settled k l .final)
   -- a quote that minds the contra price, MMALO, never takes: no report has its number as the taker's
   pub spared : (n : ℕ) → 1 ≤ n → All (Minding n) l → All (λ (r : Report). takerOf r ≡ n → ⊥) (settled k l .records)
+  -- "It never trades above A (a sell never below the away bid)": no trade is beyond the away price of its taker
+  pub within : All (TradesWithin k) (settled k l .records)
 
 -- ---- the two runs ----
 
@@ -116,6 +119,12 @@ module _ (k : Market) (top : ℕ) (mk : MarketFacts k) (l : List Entry) (so : So
       (λ s r t h e. stir-spares n some h (stir-step k s e))
       (complete-keeps (All (Minding n)) (λ s r t h e. ease-keeps (minding-kept n some) (ease-step k s e) h) a run-one) run-two)
 
+  within-both : All (TradesWithin k) (eased k l .records ++ stirred k (eased k l .final) .records)
+  within-both =
+      all-append (TradesWithin k) (eased k l .records) (stirred k (eased k l .final) .records)
+      (complete-tells (λ _. Unit {0}) (TradesWithin k) (λ s r t h e. tt) (λ s r t h e. ease-within (ease-step k s e)) tt run-one)
+      (complete-tells (Easy k top) (TradesWithin k) (stir-falls k mk .kept) (λ s r t h e. stir-within mk (h .sound) (stir-step k s e)) easy-one run-two)
+
   settles-from : Settled k l top
   unfolding settled
   settles-from = record {
@@ -131,6 +140,7 @@ module _ (k : Market) (top : ℕ) (mk : MarketFacts k) (l : List Entry) (so : So
     stirring-run = run-two;
     stems = stems-two;
     spared = spared-both;
+    within = within-both;
   }
     where
       uneased : (i : ℕ) (e : Entry) → At (stirred k (eased k l .final) .final) i e → easing k e ≡ false
