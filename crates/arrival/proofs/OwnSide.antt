@@ -1,5 +1,5 @@
--- "A quote so stopped with nothing traded is rejected": whether that is so is asked before the quote that it would replace has gone. That quote stands on its own
--- side, where it neither trades nor stops it; so where a quote's rest is cancelled, something was traded.
+-- Whether a quote is rejected is asked before the quote that it would replace has gone. That quote stands on its own side, where it neither trades nor stops it nor
+-- changes the price that protection looks at: asked after it has gone, the answer is the same. So where a quote's rest is cancelled, something was traded.
 -- Assumes nothing.
 use Prim.Native.Nat.{ℕ, zero, suc, _+_, _≤_}
 use mathlib.Core.Path.{_≡_, refl, sym, subst, ap, _∙_}
@@ -8,7 +8,7 @@ use mathlib.Core.List.{List, [], _∷_}
 use native.Mathlib.Omega.{arith}
 use lib.Dec.{eqb}
 use Rattle.prices.specs.declared.Market.{Market}
-use Rattle.prices.specs.Side.{reaches}
+use Rattle.prices.specs.Side.{reaches, away}
 use Rattle.prices.specs.Aims.{minds}
 use Rattle.prices.proofs.FrameLaws.{seen-inj}
 use Rattle.lists.specs.Places.{At, without}
@@ -20,8 +20,8 @@ use Rattle.lists.proofs.PlaceLaws.{at-same}
 use Rattle.lists.proofs.ChooseLaws.{Tells}
 use Rattle.packing.specs.declared.report.Report.{Report}
 use Rattle.book.specs.declared.Entry.{Entry}
-use Rattle.book.specs.Entries.{quote, quoteOf, against}
-use Rattle.book.specs.Look.{working, facing, nearest, contra, eligible, bestContra, hidden, hiddenWithin, quoteIn}
+use Rattle.book.specs.Entries.{quote, quoteOf, display, against}
+use Rattle.book.specs.Look.{working, facing, nearest, contra, national, eligible, bestContra, hidden, hiddenWithin, quoteIn}
 use Rattle.book.proofs.LookLaws.{ContraTells, contra-tells, quote-tells}
 use Rattle.sound.proofs.Facts.{Sound}
 use Rattle.sound.proofs.FrontLaws.{cost-is}
@@ -46,24 +46,28 @@ not-against s x e = rw e (go s)
     go false = refl
 
 -- a scan that does not ask for places is the same from any
-placeless : (s : Bool) (l : List Entry) (q j k : ℕ)
-    → scan (λ (p : ℕ) (_ : ℕ) (e : Entry). facing working s p e) q j l ≡ scan (λ (p : ℕ) (_ : ℕ) (e : Entry). facing working s p e) q k l
+placeless : (price : Entry → ℕ) (s : Bool) (l : List Entry) (q j k : ℕ)
+    → scan (λ (p : ℕ) (_ : ℕ) (e : Entry). facing price s p e) q j l ≡ scan (λ (p : ℕ) (_ : ℕ) (e : Entry). facing price s p e) q k l
 unfolding scan
-placeless s [] q j k = refl
-placeless s (y ∷ l) q j k = placeless s l (facing working s q y) (j + 1) (k + 1)
+placeless price s [] q j k = refl
+placeless price s (y ∷ l) q j k = placeless price s l (facing price s q y) (j + 1) (k + 1)
 
 module _ (s : Bool) (x : Entry) (own : against s x ≡ false) where
-  contra-from : (l : List Entry) (i q j k : ℕ) → At l i x
-      → scan (λ (p : ℕ) (_ : ℕ) (e : Entry). facing working s p e) q j (without i l) ≡ scan (λ (p : ℕ) (_ : ℕ) (e : Entry). facing working s p e) q k l
+  facing-from : (price : Entry → ℕ) (l : List Entry) (i q j k : ℕ) → At l i x
+      → scan (λ (p : ℕ) (_ : ℕ) (e : Entry). facing price s p e) q j (without i l) ≡ scan (λ (p : ℕ) (_ : ℕ) (e : Entry). facing price s p e) q k l
   unfolding scan without
-  contra-from [] i q j k h = absurd h
-  contra-from (y ∷ l) zero q j k h = let n : against s y ≡ false = ap (against s) h ∙ own in rw n (placeless s l q j (k + 1))
-  contra-from (y ∷ l) (suc i) q j k h = contra-from l i (facing working s q y) (j + 1) (k + 1) h
+  facing-from price [] i q j k h = absurd h
+  facing-from price (y ∷ l) zero q j k h = let n : against s y ≡ false = ap (against s) h ∙ own in rw n (placeless price s l q j (k + 1))
+  facing-from price (y ∷ l) (suc i) q j k h = facing-from price l i (facing price s q y) (j + 1) (k + 1) h
 
-  -- C is the same without it
+  -- C is the same without it, and so is NBO or NBB
   own-contra : (l : List Entry) (i : ℕ) → At l i x → contra s (without i l) ≡ contra s l
   unfolding nearest
-  own-contra l i h = contra-from l i 0 0 0 h
+  own-contra l i h = facing-from working l i 0 0 0 h
+
+  own-national : (a : ℕ) (l : List Entry) (i : ℕ) → At l i x → national s a (without i l) ≡ national s a l
+  unfolding nearest
+  own-national a l i h = facing-from display l i a 0 0 h
 
   -- so is what 21 looks for
   hidden-from : (limit : ℕ) (l : List Entry) (i : ℕ) → At l i x → any (hidden s limit) (without i l) ≡ any (hidden s limit) l
@@ -109,8 +113,8 @@ module _ {m top : ℕ} (e x : Entry) (own : against (e .sell) x ≡ false) (l : 
             cost-is (e .sell) (z .working),
           )))
 
-  own-trades : (k : Market) → noneTraded (took k e (without i l) .records) ≡ noneTraded (took k e l .records)
-  own-trades k =
+  own-traded : (k : Market) → noneTraded (took k e (without i l) .records) ≡ noneTraded (took k e l .records)
+  own-traded k =
       takes-now k e (without i l)
       ∙ ap (λ (b : Bool). minds (e .kind) || (eqb (e .quantity) 0 || not b)) (own-best (bound k e))
       ∙ sym (takes-now k e l)
@@ -119,34 +123,45 @@ module _ {m top : ℕ} (e x : Entry) (own : against (e .sell) x ≡ false) (l : 
   unfolding stopFor
   own-stop t = rw (own-contra (e .sell) x own l i at, own-hidden (e .sell) x own (e .limit) l i at) refl
 
+  own-protection : (t : Terms) → protectionFor t e (without i l) ≡ protectionFor t e l
+  unfolding protectionFor
+  own-protection t = rw (own-national (e .sell) x own (away (marketOf t) (e .sell)) l i at) refl
+
 -- ---- the quote replaced ----
 
 module _ {m top : ℕ} (t : Terms) (e : Entry) (l : List Entry) (so : Sound m top l) (q : quote e ≡ true) where
-  replaced-is : replaced e l ≡ cutQuote 27 (e .party) (e .sell) l
-  replaced-is = rw q refl
+  -- what does not go by an entry of its own side is the same without the quote that it replaces
+  same-without : {A : Type 0} (f : List Entry → A) → ((i : ℕ) (x : Entry) → At l i x → against (e .sell) x ≡ false → f (without i l) ≡ f l)
+      → f (replaced e l .final) ≡ f l
+  unfolding cut still
+  same-without f own =
+      let first : replaced e l ≡ cutQuote 27 (e .party) (e .sell) l = rw q refl in
+      ap (λ (x : Ran (List Entry) Report). f (x .final)) first ∙ go (quoteIn (e .party) (e .sell) l) (quote-tells l (e .party) (e .sell))
+    where
+      go : (g : Found Entry) → Tells (quoteOf (e .party) (e .sell)) (λ _. 0) l g → f (cut 27 l g .final) ≡ f l
+      go nowhere c = refl
+      go (found i x) c = own i x (c .there) (not-against (e .sell) x (of-maker (e .party) (e .sell) x (c .passes) .side))
 
-  -- it changes neither why an arrival may not rest,
+  -- C,
+  pub same-contra : contra (e .sell) (replaced e l .final) ≡ contra (e .sell) l
+  same-contra = same-without (contra (e .sell)) (λ i x h own. own-contra (e .sell) x own l i h)
+
+  -- why an arrival may not rest,
   pub same-stop : stopFor t e (replaced e l .final) ≡ stopFor t e l
-  unfolding cut still
-  same-stop =
-      ap (λ (x : Ran (List Entry) Report). stopFor t e (x .final)) replaced-is
-      ∙ go (quoteIn (e .party) (e .sell) l) (quote-tells l (e .party) (e .sell))
-    where
-      go : (f : Found Entry) → Tells (quoteOf (e .party) (e .sell)) (λ _. 0) l f → stopFor t e (cut 27 l f .final) ≡ stopFor t e l
-      go nowhere c = refl
-      go (found i x) c = own-stop e x (not-against (e .sell) x (of-maker (e .party) (e .sell) x (c .passes) .side)) l so i (c .there) t
+  same-stop = same-without (stopFor t e) (λ i x h own. own-stop e x own l so i h t)
 
-  -- nor whether it trades
-  pub same-trades : noneTraded (took (marketOf t) e (replaced e l .final) .records) ≡ noneTraded (took (marketOf t) e l .records)
-  unfolding cut still
-  same-trades =
-      ap (λ (x : Ran (List Entry) Report). noneTraded (took (marketOf t) e (x .final) .records)) replaced-is
-      ∙ go (quoteIn (e .party) (e .sell) l) (quote-tells l (e .party) (e .sell))
-    where
-      go : (f : Found Entry) → Tells (quoteOf (e .party) (e .sell)) (λ _. 0) l f
-          → noneTraded (took (marketOf t) e (cut 27 l f .final) .records) ≡ noneTraded (took (marketOf t) e l .records)
-      go nowhere c = refl
-      go (found i x) c = own-trades e x (not-against (e .sell) x (of-maker (e .party) (e .sell) x (c .passes) .side)) l so i (c .there) (marketOf t)
+  -- whether it trades anything,
+  pub same-none-traded : noneTraded (took (marketOf t) e (replaced e l .final) .records) ≡ noneTraded (took (marketOf t) e l .records)
+  same-none-traded = same-without (λ (r : List Entry). noneTraded (took (marketOf t) e r .records)) (λ i x h own. own-traded e x own l so i h (marketOf t))
+
+  -- what protection says
+  pub same-protection : protectionFor t e (replaced e l .final) ≡ protectionFor t e l
+  same-protection = same-without (protectionFor t e) (λ i x h own. own-protection e x own l so i h t)
+
+  -- SO WHETHER AND WHY A QUOTE IS REJECTED IS THE SAME, asked before or after the quote that it replaces is removed
+  pub same-rejection : rejection t e (replaced e l .final) ≡ rejection t e l
+  unfolding rejection stopsAtOnce
+  same-rejection = rw (same-protection, same-none-traded, same-stop) refl
 
 -- ---- where nothing was traded, the book is as it was ----
 
@@ -174,7 +189,7 @@ stopped-traded t e l so q h why = go (noneTraded (took (marketOf t) e (replaced 
     go false g = refl
     go true g =
         let z : cond (quote e && noneTraded (took (marketOf t) e l .records)) (stopFor t e l) 0 ≡ 0 = passed (protectionFor t e l) _ h in
-        let n : noneTraded (took (marketOf t) e l .records) ≡ true = sym (same-trades t e l so q) ∙ g in
+        let n : noneTraded (took (marketOf t) e l .records) ≡ true = sym (same-none-traded t e l so q) ∙ g in
         let w : stopFor t e l ≡ 0 = rw (q, n) at z in
         let y : stopFor t e (took (marketOf t) e (replaced e l .final) .final .book) ≡ 0 =
         ap (stopFor t e) (none-took (marketOf t) e (replaced e l .final) g) ∙ same-stop t e l so q ∙ w in
