@@ -1,11 +1,12 @@
--- EVERY REPORT OF AN ARRIVAL is its rejection, the cancellation of a quote of its own maker, a trade that it took, or what became of its rest; and only quotes are
--- rejected or cancel quotes.
+-- EVERY REPORT OF AN ARRIVAL is its rejection, the cancellation of a quote of its own maker, a trade that it took within its bound, or what became of its rest; and
+-- only quotes are rejected or cancel quotes.
 -- Assumes nothing.
 use Prim.Native.Nat.{ℕ, zero, suc}
 use mathlib.Core.Path.{_≡_, refl}
 use mathlib.Core.Bool.{Bool, true, false, cond, not}
 use mathlib.Core.List.{List}
 use native.Mathlib.Omega.{arith}
+use Rattle.prices.specs.Side.{reaches}
 use Rattle.prices.specs.Aims.{minds}
 use Rattle.lists.specs.Tests.{All}
 use Rattle.lists.specs.Choose.{Found, nowhere, found}
@@ -23,7 +24,7 @@ use Rattle.settling.specs.Stage.{andThen}
 use Rattle.arrival.specs.declared.Terms.{Terms}
 use Rattle.arrival.specs.Terms.{marketOf}
 use Rattle.arrival.specs.Cancel.{cut, cutQuote}
-use Rattle.arrival.specs.Take.{Taking, took}
+use Rattle.arrival.specs.Take.{Taking, bound, took}
 use Rattle.arrival.specs.Post.{pricesOf, resting, stopFor}
 use Rattle.arrival.specs.Arrive.{ofQuotes, bothQuotes, rejectedBy, replaced, remainder, finished, entered, rejection, arrivedAs, arrived}
 use Rattle.arrival.proofs.ReasonLaws.{rejected-quote}
@@ -39,7 +40,7 @@ tradesOf t e l = took (marketOf t) e (replaced e l .final)
 pub record Says (t : Terms) (e : Entry) (l : List Entry) (P : Report → Type 0) : Type 0 where
   pub rejects : quote e ≡ true → (why : ℕ) → P (rejected why e)
   pub cancels : quote e ≡ true → (why : ℕ) (s : Bool) (x : Entry) → OfMaker (e .party) s x → P (cancelled why x)
-  pub trades : minds (e .kind) ≡ false → (y : Entry) (q : ℕ) → P (traded e y q)
+  pub trades : minds (e .kind) ≡ false → (y : Entry) (q : ℕ) → reaches (e .sell) (bound (marketOf t) e) (y .working) ≡ true → P (traded e y q)
   pub rests : (left : ℕ) → stopFor t e (tradesOf t e l .final .book) ≡ 0 → P (rested (resting e left (pricesOf t e (tradesOf t e l .final .book))))
   pub stops : (why left : ℕ) → P (cancelled why (remainder e left))
 

@@ -1,7 +1,7 @@
 -- THE RULES OF ARRIVAL, FOR THE CLASS: statements about the definition `arrived`, one for each thing that students get wrong.
 -- Assumes nothing.
 use Prim.Native.Nat.{ℕ, zero, suc, _+_, _≤_}
-use mathlib.Core.Path.{_≡_, refl, ap, _∙_}
+use mathlib.Core.Path.{_≡_, refl, sym, subst, ap, _∙_}
 use mathlib.Core.Bool.{Bool, true, false, not, _||_}
 use mathlib.Core.List.{List, _∷_, _++_}
 use mathlib.Core.Logic.{_⊎_, inl, inr}
@@ -9,8 +9,8 @@ use native.Mathlib.Omega.{arith}
 use lib.Dec.{eqb}
 use borrow.Author.Tests.{eqb-false, ne-eqb, eq-eqb}
 use Rattle.prices.specs.declared.Prices.{Prices}
-use Rattle.prices.specs.Side.{reaches}
-use Rattle.prices.specs.Aims.{sliding, minds}
+use Rattle.prices.specs.Side.{reaches, away}
+use Rattle.prices.specs.Aims.{sliding, minds, aimDisplay, aimWorking, aims}
 use Rattle.prices.proofs.FrameLaws.{seen, unreached}
 use Rattle.prices.proofs.StepLaws.{is-legal}
 use Rattle.lists.specs.Places.{At}
@@ -23,8 +23,9 @@ use Rattle.packing.specs.declared.report.Report.the-variants.{Noted, Rejected, 
 use Rattle.book.specs.declared.Entry.{Entry}
 use Rattle.book.specs.Entries.{quote, quoteOf, against}
 use Rattle.book.specs.Change.{post}
-use Rattle.book.specs.Look.{quoteIn}
-use Rattle.book.proofs.LookLaws.{quote-tells}
+use Rattle.book.specs.Look.{working, contra, quoteIn}
+use Rattle.book.proofs.OfferLaws.{Best, best-one}
+use Rattle.book.proofs.LookLaws.{Offered, contra-price-tells, quote-tells}
 use Rattle.sound.proofs.Facts.{AsItSlides, Clear, Sound}
 use Rattle.settling.specs.Tell.{rejected, rested, cancelled}
 use Rattle.settling.specs.Stage.{andThen}
@@ -42,7 +43,7 @@ use Rattle.arrival.proofs.TakeLaws.{took-all, took-sound}
 use Rattle.arrival.proofs.CutLaws.{OtherThan, of-maker, quote-all, quote-sound, quote-gone}
 use Rattle.arrival.proofs.PostLaws.{Fits, fits}
 use Rattle.arrival.proofs.Leaves.{Rests, cancels, cut-reports, quote-leaves, other-side, still-found}
-use Rattle.arrival.proofs.OwnSide.{not-against, stopped-traded}
+use Rattle.arrival.proofs.OwnSide.{not-against, same-contra, stopped-traded}
 use Rattle.arrival.proofs.ArriveKeeps.{goesOn}
 use Rattle.arrival.proofs.ArriveTells.{tradesOf, arrived-says}
 
@@ -68,6 +69,7 @@ pub record TakesSame (t : Terms) (e : Entry) (l : List Entry) : Type 0 where
   -- and the maker may quote on
   pub unblocked : blocks t e l ≡ false
 
+-- 25 and 26 take both sides, no other reason does
 pub one-side : (why : ℕ) → why ≤ 24 → bothQuotes why ≡ false
 one-side why h = rw (ne-eqb why 25 (λ q. omega arith), ne-eqb why 26 (λ q. omega arith)) refl
 
@@ -163,9 +165,11 @@ pub record TakesOpposite (t : Terms) (e : Entry) (l : List Entry) : Type 0 where
       ≡ cancels 27 (quoteIn (e .party) (e .sell) l) ++ (tradesOf t e l .records
       ++ (cancelled (stopFor t e (tradesOf t e l .final .book)) (remainder e (tradesOf t e l .final .left))
       ∷ cancels 29 (quoteIn (e .party) (not (e .sell)) (tradesOf t e l .final .book))))
-  -- and no quote of that maker is left on either side
+  -- no quote of that maker is left on either side;
   pub same-gone : All (OtherThan (e .party) (e .sell)) (arrived t e l .final)
   pub opposite-gone : All (OtherThan (e .party) (not (e .sell))) (arrived t e l .final)
+  -- and everything else that the trades left still rests, as they left it
+  pub others : (i : ℕ) (y : Entry) → At (tradesOf t e l .final .book) i y → quoteOf (e .party) (not (e .sell)) y ≡ false → Rests (arrived t e l .final) y
 
 entered-is : (t : Terms) (e : Entry) (l : List Entry) → rejection t e l ≡ 0 → arrived t e l ≡ andThen (replaced e l) (goesOn t e)
 unfolding arrived entered
@@ -203,27 +207,28 @@ remainder-takes-opposite {t} {e} {l} a q h some stops =
       same-gone = rw final (quote-all 29 (e .party) (not (e .sell)) b (OtherThan (e .party) (e .sell))
           (took-all (marketOf t) e r (OtherThan (e .party) (e .sell)) (λ n y k z. z) (rw first (quote-gone 27 (e .party) (e .sell) l so))));
       opposite-gone = rw final (quote-gone 29 (e .party) (not (e .sell)) b (took-sound (marketOf t) e r sound));
+      others = λ i y h o. rw final (quote-leaves 29 (e .party) (not (e .sell)) b i y h o);
     }
 
 -- ---- "An order's rest is just cancelled." ----
 
--- a report is no rejection, and cancels nothing but the entry of that number
+-- a report is of a trade that the entry of that number took, that it rests, or that it is cancelled
 abbrev pub LeavesQuotes : ℕ → Report → Type 0
-LeavesQuotes n Noted = Unit {0}
+LeavesQuotes n Noted = ⊥
 LeavesQuotes n (Rejected why s party number limit quantity) = ⊥
-LeavesQuotes n (Traded s party number other price quantity) = Unit {0}
-LeavesQuotes n (Rested s party number display working quantity) = Unit {0}
-LeavesQuotes n (Repriced s party number display working quantity) = Unit {0}
+LeavesQuotes n (Traded s party number other price quantity) = number ≡ n
+LeavesQuotes n (Rested s party number display working quantity) = number ≡ n
+LeavesQuotes n (Repriced s party number display working quantity) = ⊥
 LeavesQuotes n (Cancelled why s party number limit quantity) = number ≡ n
 
--- AN ORDER CANCELS NO QUOTE AND IS NEVER REJECTED: each of its reports is a trade, that it rests, or that its own rest is cancelled
+-- AN ORDER CANCELS NO QUOTE AND IS NEVER REJECTED: each of its reports is a trade that it took, that it rests, or that its own rest is cancelled
 pub orders-leave-quotes : (t : Terms) (e : Entry) (l : List Entry) → quote e ≡ false → All (LeavesQuotes (e .number)) (arrived t e l .records)
 orders-leave-quotes t e l q =
     arrived-says t e l (LeavesQuotes (e .number)) (record {
       rejects = λ p why. clash p q;
       cancels = λ p why s x o. clash p q;
-      trades = λ mi y n. tt;
-      rests = λ left h. tt;
+      trades = λ mi y n w. refl;
+      rests = λ left h. refl;
       stops = λ why left. refl;
     })
 
@@ -260,7 +265,7 @@ adds-on-arrival t e l k =
     arrived-says t e l NoTrade (record {
       rejects = λ p why. tt;
       cancels = λ p why s x o. tt;
-      trades = λ mi y n. clash (eq-eqb (e .kind) 3 k) mi;
+      trades = λ mi y n w. clash (eq-eqb (e .kind) 3 k) mi;
       rests = λ left h. tt;
       stops = λ why left. tt;
     })
@@ -271,14 +276,23 @@ adds-on-arrival t e l k =
 abbrev pub ShortOfAll : Bool → ℕ → List Entry → Type 0
 ShortOfAll s p l = All (λ (y : Entry). against s y ≡ true → reaches s p (y .working) ≡ false) l
 
--- where a report is that an entry rests, both its prices are so
-abbrev pub PricedOff : List Entry → Report → Type 0
-PricedOff l Noted = Unit {0}
-PricedOff l (Rejected why s party number limit quantity) = Unit {0}
-PricedOff l (Traded s party number other price quantity) = Unit {0}
-PricedOff l (Rested s party number display working quantity) = ShortOfAll s display l × ShortOfAll s working l
-PricedOff l (Repriced s party number display working quantity) = Unit {0}
-PricedOff l (Cancelled why s party number limit quantity) = Unit {0}
+-- an MMALO with this display and working price, of side s, in the book l:
+pub record PricedBy (t : Terms) (e : Entry) (l : List Entry) (s : Bool) (d w : ℕ) : Type 0 where
+  -- both prices are so;
+  pub display-short : ShortOfAll s d l
+  pub working-short : ShortOfAll s w l
+  -- and they are the aims, with C the best of the working prices of all the entries that face it, dark or not
+  pub display-is : (c : ℕ) → Best s (Offered working s l) c → d ≡ aimDisplay (t .m) 3 s (e .limit) (away (marketOf t) s) c
+  pub working-is : (c : ℕ) → Best s (Offered working s l) c → w ≡ aimWorking (t .m) 3 s (e .limit) (away (marketOf t) s) c
+
+-- where a report is that the entry rests, its prices are so
+abbrev pub PricedOff : Terms → Entry → List Entry → Report → Type 0
+PricedOff t e l Noted = Unit {0}
+PricedOff t e l (Rejected why s party number limit quantity) = Unit {0}
+PricedOff t e l (Traded s party number other price quantity) = Unit {0}
+PricedOff t e l (Rested s party number display working quantity) = PricedBy t e l s display working
+PricedOff t e l (Repriced s party number display working quantity) = Unit {0}
+PricedOff t e l (Cancelled why s party number limit quantity) = Unit {0}
 
 module _ (t : Terms) (e : Entry) (l : List Entry) (a : Arriving t e l) (k : e .kind ≡ 3) where
   minding : minds (e .kind) ≡ true
@@ -302,10 +316,22 @@ module _ (t : Terms) (e : Entry) (l : List Entry) (a : Arriving t e l) (k : e .k
       go true q = clash f (not-against (e .sell) y (of-maker (e .party) (e .sell) y q .side))
       go false q = refl
 
+  -- C is that of the book before
+  same-c : (c : ℕ) → Best (e .sell) (Offered working (e .sell) l) c → contra (e .sell) (tradesOf t e l .final .book) ≡ c
+  same-c c b =
+      ap (contra (e .sell)) untouched ∙ ap (λ (x : Ran (List Entry) Report). contra (e .sell) (x .final)) (sym first)
+      ∙ same-contra t e l (before a) quoting ∙ best-one (contra-price-tells (e .sell) l) b
+    where
+      quoting : quote e ≡ true
+      quoting = rw k refl
+
+      first : replaced e l ≡ cutQuote 27 (e .party) (e .sell) l
+      first = rw quoting refl
+
   -- prices that may rest in a book where they are, are short of them all; and a display is no more aggressive than the price it works at
   fit-short : (left : ℕ) (b : List Entry) (p : Prices) → Fits (t .m) left e b p → ((i : ℕ) (y : Entry) → At l i y → against (e .sell) y ≡ true → Rests b y)
-      → PricedOff l (rested (resting e left p))
-  fit-short left b p fit there = (rw slider (each (p .display) (g .slides .front)), each (p .working) (omega arith))
+      → ShortOfAll (e .sell) (p .display) l × ShortOfAll (e .sell) (p .working) l
+  fit-short left b p fit there = (each (p .display) (g .slides .front), each (p .working) (omega arith))
     where
       g : AsItSlides (t .m) (e .kind) (e .sell) (e .limit) (p .display) (p .working)
       g = rw slider at (fit .prices)
@@ -315,20 +341,40 @@ module _ (t : Terms) (e : Entry) (l : List Entry) (a : Arriving t e l) (k : e .k
           let r : Rests b y = there i y h f in
           unreached (e .sell) d (y .working) (omega (arith, all-at (Clear (resting e left p)) b (r .place) y (fit .clear) (r .there) .clear f)))
 
-  short : (left : ℕ) → stopFor t e (tradesOf t e l .final .book) ≡ 0 → PricedOff l (rested (resting e left (pricesOf t e (tradesOf t e l .final .book))))
-  short left h =
-      let b : List Entry = tradesOf t e l .final .book in
-      fit-short left b (pricesOf t e b)
-      (fits t e b left (t .given) (market a)
-      (rw untouched (quote-sound 27 (e .party) (e .sell) l (before a))) (is-legal (t .m) (e .limit) (a .limit)) (λ mi. clash minding mi) h) facing-there
+  aims-are : pricesOf t e (tradesOf t e l .final .book)
+      ≡ aims (t .m) 3 (e .sell) (e .limit) (away (marketOf t) (e .sell)) (contra (e .sell) (tradesOf t e l .final .book))
+  aims-are = rw (slider, k) refl
 
--- AN MMALO BUY RESTS BELOW EVERY SELL, dark ones too, with its display and with its working price; a sell above every buy
-pub priced-off-dark : {t : Terms} {e : Entry} {l : List Entry} → Arriving t e l → e .kind ≡ 3 → All (PricedOff l) (arrived t e l .records)
+  priced-by : stopFor t e (tradesOf t e l .final .book) ≡ 0 → (p : Prices) → pricesOf t e (tradesOf t e l .final .book) ≡ p
+      → PricedBy t e l (e .sell) (p .display) (p .working)
+  priced-by h p q =
+      let b : List Entry = tradesOf t e l .final .book in
+      let short = fit-short 1 b (pricesOf t e b)
+      (fits t e b 1 (t .given) (market a)
+      (rw untouched (quote-sound 27 (e .party) (e .sell) l (before a))) (is-legal (t .m) (e .limit) (a .limit)) (λ mi. clash minding mi) h) facing-there in
+      record {
+        display-short = subst (λ (z : Prices). ShortOfAll (e .sell) (z .display) l) q (short .0);
+        working-short = subst (λ (z : Prices). ShortOfAll (e .sell) (z .working) l) q (short .1);
+        display-is = λ c best. ap (λ (z : Prices). z .display) (sym q ∙ aims-are)
+            ∙ ap (aimDisplay (t .m) 3 (e .sell) (e .limit) (away (marketOf t) (e .sell))) (same-c c best);
+        working-is = λ c best. ap (λ (z : Prices). z .working) (sym q ∙ aims-are)
+            ∙ ap (aimWorking (t .m) 3 (e .sell) (e .limit) (away (marketOf t) (e .sell))) (same-c c best);
+      }
+
+  rests-so : (left : ℕ) → stopFor t e (tradesOf t e l .final .book) ≡ 0 → PricedOff t e l (rested (resting e left (pricesOf t e (tradesOf t e l .final .book))))
+  rests-so left h = by (pricesOf t e (tradesOf t e l .final .book)) (priced-by h (pricesOf t e (tradesOf t e l .final .book)) refl)
+    where
+      by : (p : Prices) → PricedBy t e l (e .sell) (p .display) (p .working) → PricedOff t e l (rested (resting e left p))
+      by p z = rw slider z
+
+-- AN MMALO BUY RESTS BELOW EVERY SELL, dark ones too, with its display and with its working price, a sell above every buy; and just there: both are its aims before
+-- the best price of them all
+pub priced-off-dark : {t : Terms} {e : Entry} {l : List Entry} → Arriving t e l → e .kind ≡ 3 → All (PricedOff t e l) (arrived t e l .records)
 priced-off-dark {t} {e} {l} a k =
-    arrived-says t e l (PricedOff l) (record {
+    arrived-says t e l (PricedOff t e l) (record {
       rejects = λ p why. tt;
       cancels = λ p why s x o. tt;
-      trades = λ mi y n. tt;
-      rests = λ left h. short t e l a k left h;
+      trades = λ mi y n w. tt;
+      rests = λ left h. rests-so t e l a k left h;
       stops = λ why left. tt;
     })

@@ -11,6 +11,7 @@ pub mod Leaves
 pub mod OwnSide
 pub mod ArriveTells
 pub mod Afterwards
+pub mod Within
 pub mod ForTheClass
 pub mod EnterLaws
 pub mod EnteredLaws

@@ -259,12 +259,13 @@ takes-now k e l = pick (minds (e .kind))
     pick true = refl
     pick false = none-taken (bound k e) e (record { left = e .quantity; book = l })
 
--- every report is of a trade of the taker
-pub take-tells : (cap : ℕ) (e : Entry) (t : Taking) (P : Report → Type 0) → ((y : Entry) (q : ℕ) → P (traded e y q)) → All P (taken cap e t .records)
+-- every report is of a trade of the taker, at a price within the bound
+pub take-tells : (cap : ℕ) (e : Entry) (t : Taking) (P : Report → Type 0) → ((y : Entry) (q : ℕ) → reaches (e .sell) cap (y .working) ≡ true → P (traded e y q))
+    → All P (taken cap e t .records)
 take-tells cap e t P f = complete-tells (λ _. Unit {0}) P (λ s r u h g. tt) (λ s r u h g. of (take-step cap e s g)) tt (take-run cap e t)
   where
     of : {s u : Taking} {r : Report} → TakeStep cap e s r u → P r
-    of {s} (takes-from {y = y} c some within) = f y (min (s .left) (y .quantity))
+    of {s} (takes-from {y = y} c some within) = f y (min (s .left) (y .quantity)) within
 
 -- ---- what an arrival takes: nothing where it is an MMALO, and else as above ----
 
@@ -305,7 +306,8 @@ module _ (k : Market) (e : Entry) (l : List Entry) where
       took-either (λ (x : Ran Taking Report). All (Stems l) (x .final .book)) (λ _. stems-start l)
       (λ _. take-stems (bound k e) e (record { left = e .quantity; book = l }))
 
-  pub took-tells : (P : Report → Type 0) → (minds (e .kind) ≡ false → (y : Entry) (q : ℕ) → P (traded e y q)) → All P (took k e l .records)
+  pub took-tells : (P : Report → Type 0) → (minds (e .kind) ≡ false → (y : Entry) (q : ℕ) → reaches (e .sell) (bound k e) (y .working) ≡ true → P (traded e y q))
+      → All P (took k e l .records)
   unfolding still
   took-tells P f =
       took-either (λ (x : Ran Taking Report). All P (x .records)) (λ _. tt)

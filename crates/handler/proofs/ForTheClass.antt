@@ -7,8 +7,9 @@ use mathlib.Core.List.{List}
 use mathlib.Core.Logic.{_⊎_, inl, inr, ⊎-elim}
 use native.Mathlib.Omega.{arith}
 use lib.Dec.{eqb}
-use borrow.Author.Tests.{eq-eqb}
+use borrow.Author.Tests.{eq-eqb, ne-eqb, leb-true}
 use Rattle.prices.specs.declared.Prices.{Prices}
+use Rattle.prices.specs.declared.Market.{Market}
 use Rattle.prices.specs.Side.{reaches}
 use Rattle.prices.specs.Aims.{minds}
 use Rattle.prices.proofs.FrameLaws.{seen, reached}
@@ -26,11 +27,12 @@ use Rattle.book.specs.Look.{entryOf, quoteIn}
 use Rattle.sound.proofs.Facts.{Sound}
 use Rattle.sound.proofs.Decides.{is-sound}
 use Rattle.sound.proofs.KeepLaws.{here-facts}
-use Rattle.settling.specs.Tell.{takerOf}
+use Rattle.settling.specs.Tell.{cancelled, takerOf}
 use Rattle.settling.specs.Stage.{andThen}
 use Rattle.settling.specs.Settle.{settled}
 use Rattle.settling.proofs.Keeps.{Stems, stems-start, stems-lessened, stems-through}
 use Rattle.settling.proofs.Takers.{one-number, Minding, minding-all}
+use Rattle.settling.proofs.Within.{TradesWithin}
 use Rattle.settling.proofs.Settles.{settles}
 use Rattle.arrival.specs.declared.Terms.{Terms}
 use Rattle.arrival.specs.Terms.{marketOf}
@@ -38,6 +40,7 @@ use Rattle.arrival.specs.Cancel.{cancelEntry, cancelQuote, sweep}
 use Rattle.arrival.specs.Post.{resting}
 use Rattle.arrival.specs.Arrive.{told, arrived}
 use Rattle.arrival.proofs.ArriveTells.{arrived-says}
+use Rattle.arrival.proofs.Within.{arrival-within-away}
 use Rattle.arrival.proofs.CutLaws.{cut-all, quote-all}
 use Rattle.arrival.proofs.SweepLaws.{sweep-all}
 use Rattle.arrival.proofs.EnterLaws.{given-high, given-display}
@@ -76,31 +79,31 @@ module _ (s : Series) (a : Ask) where
       Rested : Ran (List Entry) Report → Type 0
       Rested x = All P (x .final)
 
+  -- what its reports say: what those of an arrival do, and a note, and what is cancelled
+  own-says : (P : Report → Type 0) → (enters a ≡ true → All P (arrived (s .terms) (comer (s .terms .given) a) (entriesOf (s .book)) .records))
+      → P Noted → ((why : ℕ) (x : Entry) → P (cancelled why x)) → All P (own (s .terms) a (entriesOf (s .book)) .records)
+  unfolding own
+  own-says P arrives noted gone =
+      cond-either Says (enters a) (arrived t (comer (t .given) a) l) _ arrives
+      (λ _. cond-either Says (eqb (a .kind) 7) (cancelEntry (a .party) (a .entry) l) _ (λ _. cut-says l P gone 28 (entryOf (a .party) (a .entry) l))
+      (λ _. cond-either Says (eqb (a .kind) 8) (cancelQuote (a .party) (a .sell) l) _ (λ _. cut-says l P gone 28 (quoteIn (a .party) (a .sell) l))
+      (λ _. cond-either Says (eqb (a .kind) 11) (andThen (told Noted l) (sweep (a .quantity))) (told Noted l)
+      (λ _. (noted, sweep-says l P gone (a .quantity))) (λ _. (noted, tt)))))
+    where
+      Says : Ran (List Entry) Report → Type 0
+      Says x = All P (x .records)
+
   -- who takes in it: the arriving entry alone, and no MMALO
   own-spares : (n : ℕ) → 1 ≤ n → (enters a ≡ true → Minding n (comer (s .terms .given) a)) → All (NotTaker n) (own (s .terms) a (entriesOf (s .book)) .records)
-  unfolding own
   own-spares n some m =
-      cond-either Spares (enters a) (arrived t (comer (t .given) a) l) _
+      own-says (NotTaker n)
       (λ q. arrived-says t (comer (t .given) a) l (NotTaker n) (record {
         rejects = λ p why z. omega arith;
         cancels = λ p why side x o z. omega arith;
-        trades = λ mi y k z. clash (m q z) mi;
+        trades = λ mi y k w z. clash (m q z) mi;
         rests = λ left h z. omega arith;
         stops = λ why left z. omega arith;
-      }))
-      (λ _. cond-either Spares (eqb (a .kind) 7) (cancelEntry (a .party) (a .entry) l) _ (λ _. cut-says l (NotTaker n) gone 28 (entryOf (a .party) (a .entry) l))
-      (λ _. cond-either Spares (eqb (a .kind) 8) (cancelQuote (a .party) (a .sell) l) _ (λ _. cut-says l (NotTaker n) gone 28 (quoteIn (a .party) (a .sell) l))
-      (λ _. cond-either Spares (eqb (a .kind) 11) (andThen (told Noted l) (sweep (a .quantity))) (told Noted l)
-      (λ _. (noted, sweep-says l (NotTaker n) gone (a .quantity))) (λ _. (noted, tt)))))
-    where
-      Spares : Ran (List Entry) Report → Type 0
-      Spares x = All (NotTaker n) (x .records)
-
-      gone : (why : ℕ) (x : Entry) → 0 ≡ n → ⊥
-      gone why x z = omega arith
-
-      noted : 0 ≡ n → ⊥
-      noted z = omega arith
+      })) (λ z. omega arith) (λ why x z. omega arith)
 
   module _ (ok : Accepted s a) where
     so : Sound (s .terms .m) (s .terms .given) (entriesOf (s .book))
@@ -166,3 +169,21 @@ module _ (s : Series) (a : Ask) where
           (λ q z. absurd (omega (arith, here-facts so i y at .given, z)));
       arriving = λ q k. spares (t .given + 1) (omega arith) (all-map (λ x f z. absurd (omega (arith, f .given, z))) l (so .entries)) (λ _ _. eq-eqb (a .kind) 3 k);
     }
+
+    -- ---- "It never trades above A (a sell never below the away bid)." ----
+
+    -- what enters leaves the away prices as they are
+    same-market : enters a ≡ true → marketOf (termsAfter (s .terms) a) ≡ marketOf (s .terms)
+    unfolding termsAfter
+    same-market q = rw (ne-eqb (a .kind) 9 (λ k. omega (arith, leb-true (a .kind) 6 q))) refl
+
+    -- NO TRADE OF A MESSAGE, of its own part or of settling, IS BEYOND THE AWAY PRICE OF ITS TAKER
+    pub trades-within-away : All (TradesWithin (marketOf (termsAfter (s .terms) a))) (done (s .terms) a (entriesOf (s .book)) .records)
+    unfolding done still
+    trades-within-away =
+        let k : Market = marketOf (termsAfter t a) in
+        let r : List Entry = own t a l .final in
+        all-append (TradesWithin k) (own t a l .records) (settledIf (termsAfter t a) r .records)
+        (own-says (TradesWithin k) (λ q. rw (same-market q) (arrival-within-away t (comer (t .given) a) l)) tt (λ why x. tt))
+        (cond-either (λ (x : Ran (List Entry) Report). All (TradesWithin k) (x .records)) (eqb (termsAfter t a .phase) 1) (settled k r) (still r)
+        (λ _. settles (own-sound s a ok) .within) (λ _. tt))
