@@ -7,7 +7,7 @@ use mathlib.Core.List.{List}
 use mathlib.Core.Option.{some}
 use native.Mathlib.Omega.{arith}
 use lib.Dec.{eqb, leb}
-use lib.ListN.{length, set, getD}
+use lib.ListN.{length, set, getD, length-set}
 use lib.Seq.{getD-set-same, getD-set-other}
 use borrow.Author.Tests.{eqb-true, eqb-false, eq-eqb, ne-eqb, leb-true, leb-false}
 use Rattle.lists.proofs.Bools.{clash}
@@ -46,6 +46,8 @@ pub record Blocking (s : Series) (a : Ask) (after : Series) : Type 0 where
   pub others : (maker : ℕ) → 1 ≤ maker → (maker ≡ a .party → ⊥) → isBlockedIn after maker ≡ isBlockedIn s maker
   -- after any other message, a quote not rejected or rejected with 20 to 24 among them, every maker is as it was;
   pub same : (a .kind ≡ 12 → ⊥) → (quotes a ≡ true → rejectionOf s a ≤ 24) → after .blocked ≡ s .blocked
+  -- and there is still a flag for each of the 16 makers;
+  pub flags : length (after .blocked) ≡ 16
   -- so that who is blocked stays so until kind 12 names it
   pub until : (maker : ℕ) → 1 ≤ maker → isBlockedIn s maker ≡ true → (a .kind ≡ 12 → maker ≡ a .party → ⊥) → isBlockedIn after maker ≡ true
 
@@ -109,6 +111,8 @@ module _ (s : Series) (a : Ask) (ok : Accepted s a) (flags : length (s .blocked)
     others = λ maker one apart. by-ways (λ (f : List Bool). getD f (maker - 1) false ≡ isBlockedIn s maker)
         (λ k. other-flag maker false one apart (enable-flag k)) (λ q. other-flag maker true one apart (quote-flag q)) refl;
     same = same-is;
+    flags = by-ways (λ (f : List Bool). length f ≡ 16) (λ k. length-set (s .blocked) (a .party - 1) false ∙ flags)
+        (λ q. length-set (s .blocked) (a .party - 1) true ∙ flags) flags;
     until = until;
   }
     where
