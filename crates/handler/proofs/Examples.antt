@@ -40,12 +40,13 @@ use Rattle.packing.specs.declared.report.Report.the-variants.{Rejected, Traded,
 use Rattle.packing.specs.Room.{readBack}
 use Rattle.book.specs.declared.Entry.{Entry}
 use Rattle.book.specs.declared.Pricing.{Pricing}
-use Rattle.book.specs.declared.Pricing.the-variants.{Fixed, Dark}
+use Rattle.book.specs.declared.Pricing.the-variants.{Fixed, Dark, Sliding}
 use Rattle.arrival.specs.declared.Terms.{Terms}
 use Rattle.series.specs.declared.Series.{Series}
 use Rattle.handler.specs.Asked.{askOf}
 use Rattle.handler.specs.Handle.{Handled, handled}
 use Rattle.lists.proofs.TestLaws.{all-map}
+use Rattle.book.proofs.ShapeLaws.{entries-of-book}
 use Rattle.handler.proofs.Ways.{handled-accepted}
 use Rattle.handler.proofs.Demands.{reportsOf, reports-counted, reports-told}
 
@@ -54,7 +55,7 @@ use Rattle.handler.proofs.Demands.{reportsOf, reports-counted, reports-
 pub data Letter : Type 0 where
   example-a example-b example-c example-d example-e example-f example-g example-h example-i example-j example-k example-l : Letter
 
--- an example: the series before, as its numbers and the entries that rest; the message; what price protection says; and the reports
+-- an example: the series before, as its numbers and the entries that rest; the message; what price protection says; the reports; and the entries that rest afterwards
 pub record Example : Type 0 where
   pub name : Letter
   pub terms : Terms
@@ -62,9 +63,18 @@ pub record Example : Type 0 where
   pub message : List ℕ
   pub barred : ℕ
   pub reports : List Report
+  pub after : List Entry
 
-abbrev row : Letter → Terms → List Entry → List ℕ → ℕ → List Report → Example
-row name terms book message barred reports = record { name = name; terms = terms; book = book; message = message; barred = barred; reports = reports }
+abbrev row : Letter → Terms → List Entry → List ℕ → ℕ → List Report → List Entry → Example
+row name terms book message barred reports after = record {
+  name = name;
+  terms = terms;
+  book = book;
+  message = message;
+  barred = barred;
+  reports = reports;
+  after = after;
+}
 
 -- an open call series, exempt, with M 1: K, the away bid and offer, and how many entry numbers have been given
 abbrev calls : ℕ → ℕ → ℕ → ℕ → Terms
@@ -115,6 +125,25 @@ order number sell price quantity = orderAs 5 number sell price quantity Fixed
 abbrev dark : ℕ → ℕ → ℕ → Entry
 dark number price quantity = orderAs 6 number true price quantity Dark
 
+-- the trainee's quotes that rest: a plain one at its limit, a sliding one with its display and working price
+abbrev quoteAs : ℕ → ℕ → ℕ → ℕ → ℕ → Pricing → Entry
+quoteAs kind number limit quantity working pricing = record {
+  number = number;
+  party = 1;
+  kind = kind;
+  sell = false;
+  limit = limit;
+  quantity = quantity;
+  working = working;
+  pricing = pricing;
+}
+
+abbrev plain : ℕ → ℕ → ℕ → Entry
+plain number limit quantity = quoteAs 1 number limit quantity limit Fixed
+
+abbrev slid : ℕ → ℕ → ℕ → ℕ → ℕ → ℕ → Entry
+slid kind number limit quantity display working = quoteAs kind number limit quantity working (Sliding display)
+
 -- what the trainee is told: the reason, the trainee's entry, prices, quantity
 abbrev rests : ℕ → ℕ → ℕ → ℕ → Report
 rests number display working quantity = Rested false 1 number display working quantity
@@ -136,78 +165,97 @@ table =
     row example-a (calls 3 0 100 1) (order 1 true 99 10 ∷ [])
     (48 ∷ 32 ∷ 3 ∷ 40 ∷ 0 ∷ 20 ∷ 0 ∷ 0 ∷ 0 ∷ 0 ∷ 0 ∷ [])
     0 (rests 2 98 98 5 ∷ [])
+    (order 1 true 99 10 ∷ slid 3 2 101 5 98 98 ∷ [])
     -- b: 102 rejected 22
     ∷ row example-b (calls 3 0 100 1) (order 1 true 99 10 ∷ [])
     (48 ∷ 32 ∷ 3 ∷ 48 ∷ 0 ∷ 20 ∷ 0 ∷ 0 ∷ 0 ∷ 0 ∷ 0 ∷ [])
     0 (rejects 22 2 102 5 ∷ [])
+    (order 1 true 99 10 ∷ [])
     -- c: one contract at 99: MMRP buy 2 at 102 trades 1, rests 99/100
     ∷ row example-c (calls 3 0 100 1) (order 1 true 99 1 ∷ [])
     (64 ∷ 32 ∷ 3 ∷ 48 ∷ 0 ∷ 8 ∷ 0 ∷ 0 ∷ 0 ∷ 0 ∷ 0 ∷ [])
     0 (trades 2 1 99 1 ∷ rests 2 99 100 1 ∷ [])
+    (slid 4 2 102 1 99 100 ∷ [])
     -- d: at 103 trades 1, rest cancelled 22
     ∷ row example-d (calls 3 0 100 1) (order 1 true 99 1 ∷ [])
     (64 ∷ 32 ∷ 3 ∷ 56 ∷ 0 ∷ 8 ∷ 0 ∷ 0 ∷ 0 ∷ 0 ∷ 0 ∷ [])
     0 (trades 2 1 99 1 ∷ cancels 22 2 103 1 ∷ [])
+    []
     -- e: book 198 x 222, away 197 x 223: MMALO buy 225 rests 221/221
     ∷ row example-e (calls 10 197 223 2) (order 1 false 198 10 ∷ order 2 true 222 10 ∷ [])
     (48 ∷ 32 ∷ 7 ∷ 8 ∷ 0 ∷ 20 ∷ 0 ∷ 0 ∷ 0 ∷ 0 ∷ 0 ∷ [])
     0 (rests 3 221 221 5 ∷ [])
+    (order 1 false 198 10 ∷ order 2 true 222 10 ∷ slid 3 3 225 5 221 221 ∷ [])
     -- f: A 220, empty book: plain buy 220 rejected 20
     ∷ row example-f (calls 10 0 220 0) ([])
     (16 ∷ 32 ∷ 6 ∷ 224 ∷ 0 ∷ 20 ∷ 0 ∷ 0 ∷ 0 ∷ 0 ∷ 0 ∷ [])
     0 (rejects 20 1 220 5 ∷ [])
+    []
     -- g: 219 rests
     ∷ row example-g (calls 10 0 220 0) ([])
     (16 ∷ 32 ∷ 6 ∷ 216 ∷ 0 ∷ 20 ∷ 0 ∷ 0 ∷ 0 ∷ 0 ∷ 0 ∷ [])
     0 (rests 1 219 219 5 ∷ [])
+    (plain 1 219 5 ∷ [])
     -- h: A 1: MMRP buy 1 rejected 23
     ∷ row example-h (calls 10 0 1 0) ([])
     (64 ∷ 32 ∷ 0 ∷ 8 ∷ 0 ∷ 20 ∷ 0 ∷ 0 ∷ 0 ∷ 0 ∷ 0 ∷ [])
     0 (rejects 23 1 1 5 ∷ [])
+    []
     -- i: NBO 100, the away offer: bid 200 rejected 24
     ∷ row example-i (calls 10 0 100 0) ([])
     (16 ∷ 32 ∷ 6 ∷ 64 ∷ 0 ∷ 20 ∷ 0 ∷ 0 ∷ 0 ∷ 0 ∷ 0 ∷ [])
     24 (rejects 24 1 200 5 ∷ [])
+    []
     -- i: 199 passes: 24 does not stop it; then 20 does, since the away offer is the NBO
     ∷ row example-i (calls 10 0 100 0) ([])
     (16 ∷ 32 ∷ 6 ∷ 56 ∷ 0 ∷ 20 ∷ 0 ∷ 0 ∷ 0 ∷ 0 ∷ 0 ∷ [])
     0 (rejects 20 1 199 5 ∷ [])
+    []
     -- i: the same with a displayed sell as the NBO: 200 rejected 24
     ∷ row example-i (calls 10 0 0 1) (order 1 true 100 10 ∷ [])
     (16 ∷ 32 ∷ 6 ∷ 64 ∷ 0 ∷ 20 ∷ 0 ∷ 0 ∷ 0 ∷ 0 ∷ 0 ∷ [])
     24 (rejects 24 2 200 5 ∷ [])
+    (order 1 true 100 10 ∷ [])
     -- i: 199 passes, and trades
     ∷ row example-i (calls 10 0 0 1) (order 1 true 100 10 ∷ [])
     (16 ∷ 32 ∷ 6 ∷ 56 ∷ 0 ∷ 20 ∷ 0 ∷ 0 ∷ 0 ∷ 0 ∷ 0 ∷ [])
     0 (trades 2 1 100 5 ∷ [])
+    (order 1 true 100 5 ∷ [])
     -- j: NBO 101, the away offer: bid 152 rejected 24
     ∷ row example-j (calls 10 0 101 0) ([])
     (16 ∷ 32 ∷ 4 ∷ 192 ∷ 0 ∷ 20 ∷ 0 ∷ 0 ∷ 0 ∷ 0 ∷ 0 ∷ [])
     24 (rejects 24 1 152 5 ∷ [])
+    []
     -- j: 151 passes: 24 does not stop it; then 20 does
     ∷ row example-j (calls 10 0 101 0) ([])
     (16 ∷ 32 ∷ 4 ∷ 184 ∷ 0 ∷ 20 ∷ 0 ∷ 0 ∷ 0 ∷ 0 ∷ 0 ∷ [])
     0 (rejects 20 1 151 5 ∷ [])
+    []
     -- j: the same with a displayed sell as the NBO: 152 rejected 24
     ∷ row example-j (calls 10 0 0 1) (order 1 true 101 10 ∷ [])
     (16 ∷ 32 ∷ 4 ∷ 192 ∷ 0 ∷ 20 ∷ 0 ∷ 0 ∷ 0 ∷ 0 ∷ 0 ∷ [])
     24 (rejects 24 2 152 5 ∷ [])
+    (order 1 true 101 10 ∷ [])
     -- j: 151 passes, and trades
     ∷ row example-j (calls 10 0 0 1) (order 1 true 101 10 ∷ [])
     (16 ∷ 32 ∷ 4 ∷ 184 ∷ 0 ∷ 20 ∷ 0 ∷ 0 ∷ 0 ∷ 0 ∷ 0 ∷ [])
     0 (trades 2 1 101 5 ∷ [])
+    (order 1 true 101 5 ∷ [])
     -- k: put, strike 200, not exempt: bid 200 rejected 26
     ∷ row example-k (puts 200) ([])
     (16 ∷ 32 ∷ 6 ∷ 64 ∷ 0 ∷ 20 ∷ 0 ∷ 0 ∷ 0 ∷ 0 ∷ 0 ∷ [])
     26 (rejects 26 1 200 5 ∷ [])
+    []
     -- k: 199 passes, and rests
     ∷ row example-k (puts 200) ([])
     (16 ∷ 32 ∷ 6 ∷ 56 ∷ 0 ∷ 20 ∷ 0 ∷ 0 ∷ 0 ∷ 0 ∷ 0 ∷ [])
     0 (rests 1 199 199 5 ∷ [])
+    (plain 1 199 5 ∷ [])
     -- l: dark sell 221 x 10, sell 222 x 10, no away: MMLO buy 222 x 20 trades 10 at 222, rest cancelled 21
     ∷ row example-l (calls 10 0 0 2) (dark 1 221 10 ∷ order 2 true 222 10 ∷ [])
     (32 ∷ 32 ∷ 6 ∷ 240 ∷ 0 ∷ 80 ∷ 0 ∷ 0 ∷ 0 ∷ 0 ∷ 0 ∷ [])
     0 (trades 3 2 222 10 ∷ cancels 21 3 222 10 ∷ [])
+    (dark 1 221 10 ∷ [])
     ∷ []
 
 -- ---- what is said of a row ----
@@ -221,21 +269,23 @@ pub record Outcome : Type 0 where
   pub refusal : ℕ
   pub barred : ℕ
   pub reports : List Report
+  pub after : List Entry
 
 abbrev outcomeOf : Series → Option Event → Outcome
-outcomeOf s none = record { sound = soundSeries s; refusal = 1; barred = 0; reports = [] }
+outcomeOf s none = record { sound = soundSeries s; refusal = 1; barred = 0; reports = []; after = entriesOf (s .book) }
 outcomeOf s (some e) = record {
   sound = soundSeries s;
   refusal = refusalOf s (askOf e);
   barred = protectionFor (s .terms) (comer (s .terms .given) (askOf e)) (entriesOf (s .book));
   reports = reportsOf s (some e);
+  after = done (s .terms) (askOf e) (entriesOf (s .book)) .final;
 }
 
 abbrev pub outcome : Example → Outcome
 outcome r = outcomeOf (before r) (unpackOf messages (r .message))
 
 abbrev pub expected : Example → Outcome
-expected r = record { sound = true; refusal = 0; barred = r .barred; reports = r .reports }
+expected r = record { sound = true; refusal = 0; barred = r .barred; reports = r .reports; after = r .after }
 
 -- THE THEOREM: every row of the table comes out as document 01 says
 pub examples : map outcome table ≡ map expected table
@@ -248,6 +298,7 @@ pub record Shows (r : Example) (h : Handled) : Type 0 where
   pub refusal : h .answer .refusal ≡ 0
   pub count : h .answer .count ≡ length (r .reports)
   pub reports : readBack (h .answer .count) (h .room) ≡ map some (r .reports)
+  pub after : entriesOf (h .answer .series .book) ≡ r .after
 
 row-shows : (r : Example) (room : List ℕ) → 31920 ≤ length room → outcome r ≡ expected r → Shows r (handled (before r) (r .message) room)
 row-shows r room space same = by (unpackOf messages (r .message)) refl same
@@ -263,6 +314,8 @@ row-shows r room space same = by (unpackOf messages (r .message)) refl same
           refusal = zero;
           count = reports-counted (before r) (r .message) room zero ∙ ap length told;
           reports = reports-told (before r) (r .message) room zero ∙ ap (map some) told;
+          after = ap (λ (h : Handled). entriesOf (h .answer .series .book)) answer
+              ∙ entries-of-book (done (before r .terms) (askOf e) (entriesOf (before r .book)) .final) ∙ ap (λ (o : Outcome). o .after) k;
         }
 
 each-same : (l : List Example) → map outcome l ≡ map expected l → All (λ (r : Example). outcome r ≡ expected r) l
