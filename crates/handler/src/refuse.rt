@@ -28,7 +28,7 @@ fn is_makers_only(a: Ask) -> bool
 }
 
 // 2: a party out of range.
-fn is_bad_party(a: Ask) -> bool
+pub fn is_bad_party(a: Ask) -> bool
     ensures { λ r. ⌜ r ≡ badParty a ⌝ }
 {
     if is_makers_only(a) {
@@ -41,7 +41,7 @@ fn is_bad_party(a: Ask) -> bool
 }
 
 // 3: a price out of range or off the grid.
-fn is_bad_price(m: u32, a: Ask) -> bool
+pub fn is_bad_price(m: u32, a: Ask) -> bool
     requires { ⌜ mpv m ≡ true ⌝ }
     ensures { λ r. ⌜ r ≡ badPrice m a ⌝ }
 {
@@ -58,7 +58,7 @@ fn is_bad_price(m: u32, a: Ask) -> bool
 }
 
 // 4: a quantity out of range, or a phase above 2.
-fn is_bad_quantity(a: Ask) -> bool
+pub fn is_bad_quantity(a: Ask) -> bool
     ensures { λ r. ⌜ r ≡ badQuantity a ⌝ }
 {
     if a.kind <= 6 {

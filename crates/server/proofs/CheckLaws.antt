@@ -1,0 +1,104 @@
+-- What a check without a series says of every series with that M.
+-- Assumes nothing.
+use Prim.Native.Nat.{ℕ, _≤_, _<_}
+use mathlib.Core.Path.{_≡_, refl, sym, ap, _∙_, subst}
+use mathlib.Core.Bool.{Bool, true, false, cond, not}
+use mathlib.Core.List.{List, [], _∷_, _++_}
+use mathlib.Core.Option.{Option, none, some}
+use native.Mathlib.Omega.{arith}
+use lib.Dec.{eqb, ltb}
+use lib.ListN.{length, drop}
+use borrow.Author.Tests.{le-ltb}
+use Rattle.prices.specs.Step.{mpv}
+use Rattle.lists.specs.Tests.{All}
+use Rattle.lists.proofs.Bools.{and-left}
+use Rattle.packing.specs.declared.message.Event.{Event}
+use Rattle.packing.specs.declared.message.Unpacked.{Unpacked}
+use Rattle.packing.specs.declared.message.Unpacked.the-variants.{Message, Nothing}
+use Rattle.packing.specs.Codec.{unpackOf, answerOf}
+use Rattle.packing.specs.Message.{messages, unpacked, saidBy}
+use Rattle.series.specs.declared.Series.{Series}
+use Rattle.series.specs.Series.{soundSeries, soundTerms}
+use Rattle.handler.specs.declared.Ask.{Ask}
+use Rattle.handler.specs.Asked.{askOf}
+use Rattle.handler.specs.Refuse.{badParty, badPrice, badQuantity, firstHolding, refusals}
+use Rattle.handler.specs.Handle.{handled}
+use Rattle.handler.proofs.Refusals.{table, first-none, refusals-in-order}
+use Rattle.server.specs.Check.{isMessage, faults, faultOf, check}
+
+-- ---- what the code cites ----
+
+pub is-message : (s : List ℕ) (e : Event) → answerOf messages (unpackOf messages s) ≡ saidBy (Message e) → isMessage s ≡ 0
+is-message s e h = ap (λ (p : ℕ × List ℕ). p .0) h
+
+pub is-nothing : (s : List ℕ) → answerOf messages (unpackOf messages s) ≡ saidBy Nothing → isMessage s ≡ 1
+is-nothing s h = ap (λ (p : ℕ × List ℕ). p .0) h
+
+pub check-no-series : (s : List ℕ) (m : ℕ) → mpv m ≡ false → check s m ≡ 11
+unfolding check
+check-no-series s m h = rw h refl
+
+pub check-read : (s : List ℕ) (m : ℕ) (u : Option Event) → mpv m ≡ true → unpackOf messages s ≡ u → check s m ≡ faultOf m u
+unfolding check
+check-read s m u h e = rw (h, e) refl
+
+-- ---- with a series at hand ----
+
+-- a number that none of the tests has is not that of the first
+first-other : (ts : List (ℕ × Bool)) (n : ℕ) → All (λ (t : ℕ × Bool). t .0 ≡ n → ⊥) ts → (n ≡ 0 → ⊥) → firstHolding ts ≡ n → ⊥
+first-other [] n a z h = z (sym h)
+first-other (t ∷ ts) n a z h = by (t .1) h (first-other ts n (a .1) z)
+  where
+    by : (b : Bool) → cond b (t .0) (firstHolding ts) ≡ n → (firstHolding ts ≡ n → ⊥) → ⊥
+    by true k more = a .0 k
+    by false k more = more k
+
+-- the first of a list and more behind it
+first-front : (ts us : List (ℕ × Bool)) → (firstHolding ts ≡ 0 → ⊥) → firstHolding (ts ++ us) ≡ firstHolding ts
+first-front [] us h = absurd (h refl)
+first-front (t ∷ ts) us h = by (t .1) h (first-front ts us)
+  where
+    by : (b : Bool) → (cond b (t .0) (firstHolding ts) ≡ 0 → ⊥) → ((firstHolding ts ≡ 0 → ⊥) → firstHolding (ts ++ us) ≡ firstHolding ts)
+        → cond b (t .0) (firstHolding (ts ++ us)) ≡ cond b (t .0) (firstHolding ts)
+    by true k more = refl
+    by false k more = more k
+
+first-behind : (ts us : List (ℕ × Bool)) → All (λ (t : ℕ × Bool). t .1 ≡ false) ts → firstHolding (ts ++ us) ≡ firstHolding us
+first-behind [] us a = refl
+first-behind (t ∷ ts) us a = rw (a .0) (first-behind ts us (a .1))
+
+-- what the number of a check says of a refusal: a fault is the refusal; where there is none, the refusal is none of 1 to 4
+pub record Foretells (checked refusal : ℕ) : Type 0 where
+  pub fault : (checked ≡ 0 → ⊥) → refusal ≡ checked
+  pub none : checked ≡ 0 → (n : ℕ) → 1 ≤ n → n ≤ 4 → refusal ≡ n → ⊥
+
+module _ (s : Series) (message room : List ℕ) (sound : soundSeries s ≡ true) (space : 31920 ≤ length room) where
+  -- the handler's tests behind the first two
+  judges : Option Event → ℕ
+  judges u = firstHolding (drop 2 (table s u room))
+
+  judged-so : handled s message room .answer .refusal ≡ judges (unpackOf messages message)
+  unfolding judges
+  judged-so = refusals-in-order s message room ∙ early (ltb (length room) 31920) (soundSeries s) (judges (unpackOf messages message)) (le-ltb _ _ space) sound
+    where
+      early : (b c : Bool) (n : ℕ) → b ≡ false → c ≡ true → cond b 10 (cond (not c) 11 n) ≡ n
+      early b c n h k = rw (h, k) refl
+
+  event-foretold : (u : Option Event) → Foretells (faultOf (s .terms .m) u) (judges u)
+  unfolding judges
+  event-foretold none = record { fault = λ h. refl; none = λ h n low high k. omega (arith, h) }
+  event-foretold (some e) = record {
+    fault = λ h. first-front (faults (s .terms .m) (askOf e)) (drop 3 (refusals s (askOf e))) h;
+    none = λ h n low high k.
+        first-other (drop 3 (refusals s (askOf e))) n
+        (λ q. omega (arith, q, high), (λ q. omega (arith, q, high), (λ q. omega (arith, q, high), (λ q. omega (arith, q, high), (λ q. omega (arith, q, high), tt)))))
+        (λ q. omega (arith, q, low))
+        (sym (first-behind (faults (s .terms .m) (askOf e)) (drop 3 (refusals s (askOf e))) (first-none (faults (s .terms .m) (askOf e)) (omega arith, (omega arith, (omega arith, tt))) h)) ∙ k);
+  }
+
+  -- THEOREM. In a sound series, and with room enough, what a check with the series' M answers is the handler's refusal, if that is one of 1 to 4
+  pub check-foretells : Foretells (check message (s .terms .m)) (handled s message room .answer .refusal)
+  unfolding soundSeries soundTerms
+  check-foretells =
+      subst (λ (n : ℕ). Foretells n (handled s message room .answer .refusal)) (sym (check-read message (s .terms .m) _ (and-left _ _ (and-left _ _ sound)) refl))
+      (subst (λ (n : ℕ). Foretells (faultOf (s .terms .m) (unpackOf messages message)) n) (sym judged-so) (event-foretold (unpackOf messages message)))

@@ -1,0 +1,3 @@
+// What the classroom server, which is written in C, calls: numbers, byte slices and buffers in, a number out. c/waxglimmer.h is the same in C.
+pub mod aims;
+pub mod check;
