@@ -1,0 +1,164 @@
+-- EVERY SOUND SERIES PACKS: soundness bounds each number, and so it fits its bytes.
+-- Assumes nothing.
+use Prim.Native.Nat.{ℕ, _≤_, _<_}
+use mathlib.Core.Path.{_≡_, refl, sym, ap, subst, _∙_}
+use mathlib.Core.Bool.{Bool, true, false}
+use mathlib.Core.List.{List, [], _∷_, _++_, map}
+use mathlib.Core.Option.{some}
+use native.Mathlib.Omega.{arith}
+use lib.Dec.{eqb, leb}
+use borrow.Author.Tests.{eqb-true, leb-true}
+use lib.ListN.{length, take, drop, replicate, take-append-drop}
+use Rattle.prices.specs.Step.{given}
+use Rattle.prices.proofs.StepLaws.{is-mpv, small, is-given}
+use Rattle.lists.proofs.Bools.{and-right}
+use Rattle.lists.specs.Tests.{All, all}
+use Rattle.lists.proofs.TestLaws.{all-map, all-append, all-true, true-all}
+use Rattle.bits.specs.Fields.{Fit}
+use Rattle.packing.specs.Codec.{bit, onlyIf, packs}
+use Rattle.packing.proofs.CodecLaws.{fit-packs}
+use Rattle.book.specs.declared.Entry.{Entry}
+use Rattle.book.specs.declared.Pricing.{Pricing}
+use Rattle.book.specs.declared.Pricing.the-variants.{Fixed, Dark, Sliding}
+use Rattle.book.specs.Shape.{zeroEntry, entriesOf}
+use Rattle.sound.specs.Sound.{unusedEntry}
+use Rattle.sound.proofs.Facts.{PricedAs, EntryFacts}
+use Rattle.sound.proofs.Decides.{is-sound}
+use Rattle.checking.proofs.BookLaws.{unused-zero}
+use Rattle.series.specs.declared.Series.{Series}
+use Rattle.series.specs.Series.{soundSeries}
+use Rattle.series.proofs.SeriesFacts.{SeriesFacts, series-facts}
+use Rattle.state.specs.Header.{headers}
+use Rattle.state.specs.Entry.{entries, pricingNumber, ownDisplay}
+use Rattle.state.specs.State.{headerOf, packsSeries, seriesBytes, packSeries}
+use Rattle.state.proofs.StateLaws.{fit-parts}
+
+bit-fits : (b : Bool) → bit b < 2
+bit-fits false = omega arith
+bit-fits true = omega arith
+
+flags-fit : (l : List Bool) → Fit (replicate (length l) 1) (map bit l)
+flags-fit [] = tt
+flags-fit (b ∷ l) = (bit-fits b, flags-fit l)
+
+-- ---- an entry ----
+
+number-fits : (p : Pricing) → pricingNumber p < 256
+number-fits Fixed = omega arith
+number-fits Dark = omega arith
+number-fits (Sliding d) = omega arith
+
+display-fits : (m kind limit w : ℕ) (s : Bool) (p : Pricing) → PricedAs m kind s limit w p → ownDisplay p < 4294967296
+display-fits m kind limit w s Fixed f = omega arith
+display-fits m kind limit w s Dark f = omega arith
+display-fits m kind limit w s (Sliding d) f = omega (arith, f .slides .shown .high)
+
+entry-packs : (m top : ℕ) → top ≤ 1000000 → (e : Entry) → EntryFacts m top e → packs entries e ≡ true
+entry-packs m top few e f =
+    fit-packs entries e (
+      omega (arith, f .given, few),
+      (
+        omega (arith, f .limit .high),
+        (
+          omega (arith, f .most),
+          (
+            omega (arith, f .works .high),
+            (
+              display-fits m (e .kind) (e .limit) (e .working) (e .sell) (e .pricing) (f .prices),
+              (
+                omega (arith, f .party-high),
+                (
+                  omega (arith, f .kind-high),
+                  (
+                    omega (arith, bit-fits (e .sell)),
+                    (number-fits (e .pricing), tt),
+                  ),
+                ),
+              ),
+            ),
+          ),
+        ),
+      ),
+    )
+    refl
+
+zero-packs : (e : Entry) → unusedEntry e ≡ true → packs entries e ≡ true
+unfolding packs
+zero-packs e h = ap (packs entries) (unused-zero e h)
+
+-- ---- a series ----
+
+module _ (s : Series) (sound : soundSeries s ≡ true) (places : length (s .book .entries) ≡ 64) (makers : length (s .blocked) ≡ 16) where
+  facts : SeriesFacts s
+  facts = series-facts s sound
+
+  given-few : (p : ℕ) → given (s .terms .m) p ≡ true → p ≤ 100000
+  given-few p g = by (eqb p 0) refl
+    where
+      by : (b : Bool) → eqb p 0 ≡ b → p ≤ 100000
+      by true q = omega (arith, eqb-true p 0 q)
+      by false q = is-given (s .terms .m) p g .legal q .high
+
+  header-packs : packs headers (headerOf s) ≡ true
+  header-packs =
+      let t = facts .terms in
+      fit-packs headers (headerOf s) (
+        omega (arith, small (is-mpv (s .terms .m) (t .step)) .1),
+        (
+          omega (arith, t .steps),
+          (
+            omega (arith, leb-true (s .terms .strike) 100000 (and-right (leb 1 (s .terms .strike)) (leb (s .terms .strike) 100000) (t .strike))),
+            (
+              omega (arith, t .phase),
+              (
+                omega (arith, given-few (s .terms .bid) (t .bid)),
+                (
+                  omega (arith, given-few (s .terms .offer) (t .offer)),
+                  (
+                    omega (arith, t .underlying),
+                    (
+                      omega (arith, t .numbers),
+                      (
+                        omega (arith, bit-fits (s .terms .put)),
+                        (
+                          omega (arith, bit-fits (s .terms .exempt)),
+                          (
+                            omega (arith, facts .book .few),
+                            subst (λ (n : ℕ). Fit (replicate n 1) (map bit (s .blocked))) makers (flags-fit (s .blocked)),
+                          ),
+                        ),
+                      ),
+                    ),
+                  ),
+                ),
+              ),
+            ),
+          ),
+        ),
+      )
+      refl
+
+  resting-pack : All (λ (e : Entry). packs entries e ≡ true) (take (s .book .count) (s .book .entries))
+  unfolding entriesOf
+  resting-pack =
+      all-map (entry-packs (s .terms .m) (s .terms .given) (facts .terms .numbers)) (entriesOf (s .book))
+      (is-sound (s .terms .m) (s .terms .given) (entriesOf (s .book)) (facts .terms .step) (facts .book .entries) .entries)
+
+  unused-pack : All (λ (e : Entry). packs entries e ≡ true) (drop (s .book .count) (s .book .entries))
+  unused-pack =
+      all-map zero-packs (drop (s .book .count) (s .book .entries))
+      (all-true unusedEntry (drop (s .book .count) (s .book .entries)) (facts .book .unused))
+
+  entries-pack : all (packs entries) (s .book .entries) ≡ true
+  entries-pack =
+      sym (ap (all (packs entries)) (take-append-drop (s .book .count) (s .book .entries)))
+      ∙ true-all (packs entries) (take (s .book .count) (s .book .entries) ++ drop (s .book .count) (s .book .entries))
+      (all-append (λ (e : Entry). packs entries e ≡ true) (take (s .book .count) (s .book .entries)) (drop (s .book .count) (s .book .entries)) resting-pack unused-pack)
+
+  -- THEOREM. A sound series, with its 64 places and 16 makers, packs
+  pub sound-packs : packsSeries s ≡ true
+  sound-packs = fit-parts s header-packs places entries-pack
+
+  pub sound-state : packSeries s ≡ some (seriesBytes s)
+  unfolding packSeries
+  sound-state = ap (λ (b : Bool). onlyIf b (some (seriesBytes s))) sound-packs
