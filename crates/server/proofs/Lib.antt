@@ -1,1 +1,3 @@
 pub mod CheckLaws
+pub mod ServeLaws
+pub mod ServeFacts

@@ -1,0 +1,136 @@
+-- WHAT A C CALLER MAY RELY ON, said of `serve` for every buffer, message and room.
+-- Assumes nothing.
+use Prim.Native.Nat.{ℕ, _≤_, _-_}
+use mathlib.Core.Path.{_≡_, refl, sym, ap, _∙_}
+use mathlib.Core.Bool.{Bool, true, false, cond, _&&_}
+use mathlib.Core.List.{List, [], _∷_, map}
+use mathlib.Core.Option.{Option, none, some}
+use native.Mathlib.Omega.{arith}
+use lib.Dec.{eqb, ltb}
+use lib.ListN.{length, set, replicate, length-set, length-map}
+use borrow.Author.Tests.{le-ltb}
+use Rattle.lists.proofs.Bools.{and-left}
+use Rattle.bits.specs.Fields.{Fit, Bytes}
+use Rattle.packing.specs.declared.message.Event.{Event}
+use Rattle.packing.specs.Codec.{bit, onlyIf, packs, unpackOf}
+use Rattle.packing.specs.Message.{messages}
+use Rattle.packing.proofs.CodecLaws.{packs-fit}
+use Rattle.book.proofs.ShapeLaws.{book-well-formed}
+use Rattle.book.specs.Shape.{entriesOf}
+use Rattle.series.specs.declared.Series.{Series}
+use Rattle.series.specs.Series.{soundSeries}
+use Rattle.handler.specs.declared.Ask.{Ask}
+use Rattle.arrival.specs.Arrive.{blocks}
+use Rattle.handler.specs.Asked.{askOf, quotes}
+use Rattle.handler.specs.Accept.{comer, blockedAfter, seriesAfter}
+use Rattle.handler.specs.Handle.{Handled, handled}
+use Rattle.handler.proofs.Ways.{accepting, handled-accepted}
+use Rattle.handler.proofs.Passed.{accepts}
+use Rattle.handler.proofs.Accepted.{done-part, after-sound}
+use Rattle.handler.proofs.Refusals.{refusals-keep}
+use Rattle.state.specs.Header.{headers}
+use Rattle.state.specs.State.{headerOf, unpackSeries, packsSeries, seriesBytes, packSeries}
+use Rattle.state.proofs.RoundTrip.{series-pack, pack-series}
+use Rattle.state.proofs.SoundPacks.{sound-state}
+use Rattle.server.specs.Serve.{Served, unserved, holding, serveIn, serve}
+
+-- ---- refusals ----
+
+pub record Kept (state room : List ℕ) (x : Served) : Type 0 where
+  pub count : x .count ≡ 0
+  pub buffer : x .state ≡ state
+  pub reports : x .room ≡ room
+
+-- EVERY REFUSAL LEAVES EVERY LENT BYTE AS IT STOOD, and count 0
+pub refused-keeps : (state message room : List ℕ) → Bytes state → (serve state message room .refusal ≡ 0 → ⊥) → Kept state room (serve state message room)
+unfolding serve
+refused-keeps state message room b h = by (ltb (length room) 31920) (unpackSeries state) refl h
+  where
+    by : (c : Bool) (o : Option Series) → unpackSeries state ≡ o → ((cond c (unserved 10 state room) (serveIn state message room o)) .refusal ≡ 0 → ⊥)
+        → Kept state room (cond c (unserved 10 state room) (serveIn state message room o))
+    by true o q k = record { count = refl; buffer = refl; reports = refl }
+    by false none q k = record { count = refl; buffer = refl; reports = refl }
+    by false (some s) q k =
+        let u = refusals-keep s message room k in
+        record {
+          count = u .count;
+          buffer = ap (λ (x : Series). holding state (packSeries x)) (u .series) ∙ ap (holding state) (series-pack state s b q);
+          reports = u .bytes;
+        }
+
+-- A BUFFER THAT HOLDS NO SOUND SERIES IS REFUSAL 11, whatever its bytes and the message
+pub unsound-11 : (state message room : List ℕ) → 31920 ≤ length room → ((s : Series) → unpackSeries state ≡ some s → soundSeries s ≡ false)
+    → serve state message room .refusal ≡ 11
+unfolding serve handled
+unsound-11 state message room space damaged =
+    ap (λ (c : Bool). (cond c (unserved 10 state room) (serveIn state message room (unpackSeries state))) .refusal) (le-ltb (length room) 31920 space)
+    ∙ by (unpackSeries state) refl
+  where
+    by : (o : Option Series) → unpackSeries state ≡ o → serveIn state message room o .refusal ≡ 11
+    by none q = refl
+    by (some s) q = rw (le-ltb (length room) 31920 space, damaged s q) refl
+
+-- ---- accepted messages ----
+
+fit-length : (ws xs : List ℕ) → Fit ws xs → length xs ≡ length ws
+fit-length [] [] f = refl
+fit-length [] (x ∷ xs) f = absurd f
+fit-length (w ∷ ws) [] f = absurd f
+fit-length (w ∷ ws) (x ∷ xs) f = omega (arith, fit-length ws xs (f .1))
+
+packs-makers : (s : Series) → packsSeries s ≡ true → length (s .blocked) ≡ 16
+unfolding packsSeries
+packs-makers s h =
+    let f = packs-fit headers (headerOf s) (and-left _ _ h) .0 in
+    sym (length-map (s .blocked) bit) ∙ fit-length (replicate 16 1) (map bit (s .blocked)) (f .1 .1 .1 .1 .1 .1 .1 .1 .1 .1 .1)
+
+makers-after : (s : Series) (a : Ask) → length (seriesAfter s a .blocked) ≡ length (s .blocked)
+unfolding blockedAfter
+makers-after s a = by (eqb (a .kind) 12) (quotes a && blocks (s .terms) (comer (s .terms .given) a) (entriesOf (s .book)))
+  where
+    by : (b c : Bool) → length (cond b (set (s .blocked) (a .party - 1) false) (cond c (set (s .blocked) (a .party - 1) true) (s .blocked))) ≡ length (s .blocked)
+    by true c = length-set (s .blocked) (a .party - 1) false
+    by false true = length-set (s .blocked) (a .party - 1) true
+    by false false = refl
+
+pub record AcceptedIn (state message : List ℕ) (x : Served) : Type 0 where
+  pub before : Series
+  pub held : unpackSeries state ≡ some before
+  pub event : Event
+  pub read : unpackOf messages message ≡ some event
+  pub bytes : x .state ≡ seriesBytes (seriesAfter before (askOf event))
+  pub holds : unpackSeries (x .state) ≡ some (seriesAfter before (askOf event))
+  pub sound : soundSeries (seriesAfter before (askOf event)) ≡ true
+
+only : (b : Bool) (l s : List ℕ) → onlyIf b (some l) ≡ some s → b ≡ true
+only true l s h = refl
+only false l s h = absurd (let z : _≡_ {A = ℕ} 0 1 = cc in omega arith)
+
+-- AN ACCEPTED MESSAGE LEAVES THE SERIES AFTERWARDS IN THE BUFFER, packed, and that series is sound
+pub accepted-holds : (state message room : List ℕ) → Bytes state → serve state message room .refusal ≡ 0 → AcceptedIn state message (serve state message room)
+unfolding serve packSeries
+accepted-holds state message room b h = by (ltb (length room) 31920) (unpackSeries state) refl h
+  where
+    by : (c : Bool) (o : Option Series) → unpackSeries state ≡ o → (cond c (unserved 10 state room) (serveIn state message room o)) .refusal ≡ 0
+        → AcceptedIn state message (cond c (unserved 10 state room) (serveIn state message room o))
+    by true o q z = absurd (omega (arith, z))
+    by false none q z = absurd (omega (arith, z))
+    by false (some s) q z =
+        let way = accepting s message room z in
+        let a : Ask = askOf (way .event) in
+        let ok = accepts s (way .event) (way .sound) (way .passes) in
+        let is = handled-accepted s message room (way .space) (way .sound) (way .event) (way .read) (way .passes) in
+        let fit = only (packsSeries s) (seriesBytes s) state (series-pack state s b q) in
+        let packed : packSeries (seriesAfter s a) ≡ some (seriesBytes (seriesAfter s a)) =
+        sound-state (seriesAfter s a) (after-sound s a ok) (book-well-formed _ (done-part s a ok .size) .places) (makers-after s a ∙ packs-makers s fit) in
+        let there : holding state (packSeries (handled s message room .answer .series)) ≡ seriesBytes (seriesAfter s a) =
+        ap (λ (x : Handled). holding state (packSeries (x .answer .series))) is ∙ ap (holding state) packed in
+        record {
+          before = s;
+          held = q;
+          event = way .event;
+          read = way .read;
+          bytes = there;
+          holds = ap unpackSeries there ∙ pack-series (seriesAfter s a) (seriesBytes (seriesAfter s a)) packed;
+          sound = after-sound s a ok;
+        }

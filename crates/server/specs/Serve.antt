@@ -1,0 +1,56 @@
+-- The handler for a caller who keeps the series in a buffer of 1,564 bytes: `handled` on the unpacked series, packed again.
+-- Assumes nothing.
+use Prim.Native.Nat.{ℕ}
+use mathlib.Core.Bool.{Bool, cond}
+use mathlib.Core.List.{List}
+use mathlib.Core.Option.{Option, none, some}
+use lib.Dec.{eqb, ltb}
+use lib.ListN.{length}
+use Rattle.packing.specs.declared.setup.Setup.{Setup}
+use Rattle.packing.specs.Codec.{nothing, unpackOf}
+use Rattle.packing.specs.Setup.{setups}
+use Rattle.packing.specs.Message.{messageAt}
+use Rattle.series.specs.declared.Series.{Series}
+use Rattle.series.specs.Series.{newSeries}
+use Rattle.handler.specs.Handle.{Handled, handled}
+use Rattle.state.specs.State.{unpackSeries, seriesBytes, packSeries}
+
+-- the number answered, and what the lent buffers then hold
+pub record SetUp : Type 0 where
+  pub refusal : ℕ
+  pub state : List ℕ
+
+-- A NEW SERIES IN THE BUFFER. First 1: "Setup of other length or values is refused (1, no series)"; then 11, where the buffer has not
+-- 1,564 bytes and so cannot hold a series
+abbrev pub setUp : List ℕ → Option Setup → SetUp
+setUp state none = record { refusal = nothing; state = state }
+setUp state (some s) = cond (eqb (length state) 1564) (record { refusal = 0; state = seriesBytes (newSeries s) }) (record { refusal = 11; state = state })
+
+pub record Served : Type 0 where
+  pub refusal : ℕ
+  pub count : ℕ
+  pub state : List ℕ
+  pub room : List ℕ
+
+abbrev pub served : ℕ → ℕ → List ℕ → List ℕ → Served
+served refusal count state room = record { refusal = refusal; count = count; state = state; room = room }
+
+-- "Each returns its number and count 0 and changes nothing."
+abbrev pub unserved : ℕ → List ℕ → List ℕ → Served
+unserved why state room = served why 0 state room
+
+-- the buffer with a series in it; as it was, where that does not pack
+abbrev pub holding : List ℕ → Option (List ℕ) → List ℕ
+holding state none = state
+holding state (some bytes) = bytes
+
+abbrev pub packedAgain : List ℕ → Handled → Served
+packedAgain state h = served (h .answer .refusal) (h .answer .count) (holding state (packSeries (h .answer .series))) (h .room)
+
+abbrev pub serveIn : List ℕ → List ℕ → List ℕ → Option Series → Served
+serveIn state message room none = unserved 11 state room
+serveIn state message room (some s) = packedAgain state (handled s message room)
+
+-- ONE MESSAGE. 10: "report room under 31,920 bytes"; 11: the buffer holds no series, or an unsound one; then the handler's refusals, in its order
+unfoldable pub serve : List ℕ → List ℕ → List ℕ → Served
+serve state message room = cond (ltb (length room) 31920) (unserved 10 state room) (serveIn state message room (unpackSeries state))
