@@ -1,0 +1,66 @@
+#!/usr/bin/env bash
+# Compiles the C programs of this folder against the proved archive and runs them: example.c on every lesson, whose outside answer it must write;
+# damage.c on some, between guard pages, and its own code under an address sanitizer where the compiler has one (the archive is compiled
+# without). Run it anywhere in the repository; exit status 1 if anything differs.
+set -uo pipefail
+cd "$(dirname "$(readlink -f "$0")")/.." || exit 2
+
+compiler=
+run=()
+case $(uname -m) in
+  x86_64)
+    for name in cc clang gcc; do command -v "$name" >/dev/null && compiler=$name && break; done ;;
+  *)
+    # the archive is for x86-64: another machine needs a compiler for that, and the kit's emulator
+    command -v x86_64-linux-gnu-gcc >/dev/null && compiler='x86_64-linux-gnu-gcc -static'
+    emulator=$(dirname "$(dirname "$(rt doc)")")/on/$(uname -m)/toolchain/bin/qemu-x86_64
+    run=("$emulator")
+    [ -x "$emulator" ] || compiler= ;;
+esac
+if [ -z "$compiler" ]; then
+  echo "c/test.sh: SKIPPED: $(uname -m) has no C compiler for x86-64 here (the archive is for x86-64)"
+  exit 0
+fi
+
+rt staticlib server >target-staticlib.log 2>&1 || { tail -n 20 target-staticlib.log; rm -f target-staticlib.log; echo 'c/test.sh: no archive'; exit 1; }
+rm -f target-staticlib.log
+archive=target/staticlib/libserver.a
+work=$(mktemp -d)
+trap 'rm -rf "$work"' EXIT
+
+build() { # NAME OPTIONS..: one program
+  local name=$1
+  shift
+  $compiler -std=c99 -O2 -Wall -Wextra -Werror "$@" -o "$work/$name" "c/$name.c" "$archive"
+}
+build example || exit 1
+sanitizer='between guard pages, the C code under an address sanitizer'
+if ! { build damage -g -fsanitize=address,undefined -fno-sanitize-recover=all && [ "${#run[@]}" = 0 ]; } 2>/dev/null; then
+  sanitizer='between guard pages, without a sanitizer: the compiler has none'
+  build damage || exit 1
+fi
+
+lessons=0 failed=0
+for lesson in tests/lessons/*.bin; do
+  lessons=$((lessons + 1))
+  if ! "${run[@]+"${run[@]}"}" "$work/example" <"$lesson" | cmp -s - "${lesson%.bin}.out"; then
+    echo "c/test.sh: c/example.c differs from the outside answer on $lesson"
+    failed=$((failed + 1))
+  fi
+done
+[ "$lessons" -gt 0 ] || { echo 'c/test.sh: no lessons'; exit 1; }
+
+damaged=0
+for lesson in tests/lessons/*.bin; do
+  damaged=$((damaged + 1))
+  [ $((damaged % ${EVERY:-10})) = 1 ] || [ "${EVERY:-10}" = 1 ] || continue
+  if ! "${run[@]+"${run[@]}"}" "$work/damage" <"$lesson" >"$work/said" 2>&1; then
+    tail -n 20 "$work/said"
+    echo "c/test.sh: c/damage.c failed on $lesson"
+    failed=$((failed + 1))
+  else
+    grep -h '^damage' "$work/said" | tail -n 1
+  fi
+done
+[ "$failed" = 0 ] || { echo "c/test.sh: $failed failed"; exit 1; }
+echo "c/test.sh: $lessons lessons as the outside answers have them; damaged states tried $sanitizer"

@@ -1,0 +1,69 @@
+/* Waxglimmer for C: one option series, held in a buffer that the caller owns.
+ *
+ * Every function answers a number: 0, or a refusal of document 01. What each answers, and what every lent byte holds afterwards, is proved
+ * for all inputs (crates/server). A refusal leaves every lent byte as it stood, and count 0.
+ *
+ *   1  a setup or a message of wrong length, unknown kind, a nonzero unused bit or field
+ *   2  party out of range            6  the maker is blocked
+ *   3  a price out of range          7  64 entries rest
+ *   4  quantity or phase out of range  8  no such entry of that party, or no such quote
+ *   5  the series is not open        9  entry 1,000,000 has been given
+ *  10  the report room is under WAXGLIMMER_ROOM bytes
+ *  11  the state buffer holds no sound series, or has not WAXGLIMMER_STATE bytes
+ *
+ * What no header can promise is the caller's to see to:
+ *   - a length beside a pointer is the number of bytes that may be read (and, of state and room, written) from there; a wrong length is
+ *     undefined, and so is a null or dangling pointer, even with length 0;
+ *   - two buffers that one call is lent do not overlap, if the call writes one of them: state, room, count, display and working are
+ *     written, setup, message and run are only read;
+ *   - no other thread uses a lent buffer during the call. Calls on different buffers may run at the same time: nothing else is kept.
+ */
+#ifndef WAXGLIMMER_H
+#define WAXGLIMMER_H
+
+#include <stddef.h>
+#include <stdint.h>
+
+#ifdef __cplusplus
+extern "C" {
+#endif
+
+#define WAXGLIMMER_SETUP 4     /* bytes of a setup */
+#define WAXGLIMMER_MESSAGE 11  /* bytes of a message */
+#define WAXGLIMMER_REPORT 14   /* bytes of a report */
+#define WAXGLIMMER_REPORTS 2280 /* the most reports that one message gives */
+#define WAXGLIMMER_ROOM 31920  /* the least bytes of a report room: 2,280 reports of 14 */
+#define WAXGLIMMER_STATE 1564  /* bytes of a series; crates/state/src/lib.rt has the layout */
+
+/* The aims of one quote. kind 3 (MMALO) or 4 (MMRP); side 0 buy, 1 sell; limit; away and contra price, 0 for none; m 1, 5 or 10.
+ * Answers 0, 1 (another kind, side or m) or 3 (an illegal price). Both aims are written: 0 on a refusal. An aim may fall one m outside the
+ * legal prices. */
+uint32_t waxglimmer_aims(uint32_t kind, uint32_t side, uint32_t limit, uint32_t away, uint32_t contra, uint32_t m, uint32_t *display,
+                         uint32_t *working);
+
+/* Is this byte string a message? 0, or 1 for none. _at judges the 11 bytes from place `at` of a run, which are fewer, and so no message,
+ * where the run ends before. Any `at` may be asked. */
+uint32_t waxglimmer_is_message(const uint8_t *message, size_t length);
+uint32_t waxglimmer_is_message_at(const uint8_t *run, size_t length, size_t at);
+
+/* Which of the refusals 1 to 4 would a series with this m give the message? The first that applies; 0 for none of them; 11 for an m that
+ * is not 1, 5 or 10, since no sound series has it. */
+uint32_t waxglimmer_check(const uint8_t *message, size_t length, uint32_t m);
+uint32_t waxglimmer_check_at(const uint8_t *run, size_t length, size_t at, uint32_t m);
+
+/* Sets up a new series in the state buffer. 0; 1 for a setup that is refused; then 11 for a buffer that has not WAXGLIMMER_STATE bytes. */
+uint32_t waxglimmer_setup(const uint8_t *setup, size_t setup_length, uint8_t *state, size_t state_length);
+
+/* Answers a message (or the one at place `at` of a run). On 0 the state buffer holds the series afterwards and the first
+ * *count * WAXGLIMMER_REPORT bytes of the room its reports, in order; no byte of the room beyond them is written. On any other number
+ * state and room are as they were and *count is 0. */
+uint32_t waxglimmer_handle(uint8_t *state, size_t state_length, const uint8_t *message, size_t message_length, uint8_t *room,
+                           size_t room_length, size_t *count);
+uint32_t waxglimmer_handle_at(uint8_t *state, size_t state_length, const uint8_t *run, size_t run_length, size_t at, uint8_t *room,
+                              size_t room_length, size_t *count);
+
+#ifdef __cplusplus
+}
+#endif
+
+#endif
