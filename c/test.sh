@@ -1,5 +1,6 @@
 #!/usr/bin/env bash
 # Compiles the C programs of this folder against the proved archive and runs them: example.c on every lesson, whose outside answer it must write;
+# calls.c on every lesson;
 # damage.c on some, between guard pages, and its own code under an address sanitizer where the compiler has one (the archive is compiled
 # without). Run it anywhere in the repository; exit status 1 if anything differs.
 set -uo pipefail
@@ -34,6 +35,7 @@ build() { # NAME OPTIONS..: one program
   $compiler -std=c99 -O2 -Wall -Wextra -Werror "$@" -o "$work/$name" "c/$name.c" "$archive"
 }
 build example || exit 1
+build calls || exit 1
 sanitizer='between guard pages, the C code under an address sanitizer'
 if ! { build damage -g -fsanitize=address,undefined -fno-sanitize-recover=all && [ "${#run[@]}" = 0 ]; } 2>/dev/null; then
   sanitizer='between guard pages, without a sanitizer: the compiler has none'
@@ -47,6 +49,7 @@ for lesson in tests/lessons/*.bin; do
     echo "c/test.sh: c/example.c differs from the outside answer on $lesson"
     failed=$((failed + 1))
   fi
+  "${run[@]+"${run[@]}"}" "$work/calls" <"$lesson" || { echo "c/test.sh: c/calls.c failed on $lesson"; failed=$((failed + 1)); }
 done
 [ "$lessons" -gt 0 ] || { echo 'c/test.sh: no lessons'; exit 1; }
 

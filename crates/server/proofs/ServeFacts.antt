@@ -14,11 +14,14 @@ use Rattle.bits.specs.Fields.{Fit, Bytes}
 use Rattle.packing.specs.declared.message.Event.{Event}
 use Rattle.packing.specs.Codec.{bit, onlyIf, packs, unpackOf}
 use Rattle.packing.specs.Message.{messages}
+use Rattle.packing.specs.declared.setup.Setup.{Setup}
+use Rattle.packing.specs.Setup.{setups}
 use Rattle.packing.proofs.CodecLaws.{packs-fit}
 use Rattle.book.proofs.ShapeLaws.{book-well-formed}
-use Rattle.book.specs.Shape.{entriesOf}
+use Rattle.book.specs.Shape.{entriesOf, bookOf}
 use Rattle.series.specs.declared.Series.{Series}
-use Rattle.series.specs.Series.{soundSeries}
+use Rattle.series.specs.Series.{soundSeries, newSeries}
+use Rattle.series.proofs.SetupSound.{setup-sound}
 use Rattle.handler.specs.declared.Ask.{Ask}
 use Rattle.arrival.specs.Arrive.{blocks}
 use Rattle.handler.specs.Asked.{askOf, quotes}
@@ -32,7 +35,7 @@ use Rattle.state.specs.Header.{headers}
 use Rattle.state.specs.State.{headerOf, unpackSeries, packsSeries, seriesBytes, packSeries}
 use Rattle.state.proofs.RoundTrip.{series-pack, pack-series}
 use Rattle.state.proofs.SoundPacks.{sound-state}
-use Rattle.server.specs.Serve.{Served, unserved, holding, serveIn, serve}
+use Rattle.server.specs.Serve.{SetUp, setUp, Served, unserved, holding, serveIn, serve}
 
 -- ---- refusals ----
 
@@ -134,3 +137,46 @@ accepted-holds state message room b h = by (ltb (length room) 31920) (unpackSeri
           holds = ap unpackSeries there ∙ pack-series (seriesAfter s a) (seriesBytes (seriesAfter s a)) packed;
           sound = after-sound s a ok;
         }
+
+-- ---- setup ----
+
+pub record SetIn (bytes : List ℕ) (x : SetUp) : Type 0 where
+  pub setup : Setup
+  pub read : unpackOf setups bytes ≡ some setup
+  pub holds : unpackSeries (x .state) ≡ some (newSeries setup)
+  pub sound : soundSeries (newSeries setup) ≡ true
+
+-- a legal setup, by whether the buffer is long enough
+abbrev put : List ℕ → Setup → Bool → SetUp
+put state s c = cond c (record { refusal = 0; state = seriesBytes (newSeries s) }) (record { refusal = 11; state = state })
+
+-- A SETUP THAT IS ACCEPTED LEAVES THE NEW SERIES IN THE BUFFER, and that series is sound
+pub setup-holds : (bytes state : List ℕ) → setUp state (unpackOf setups bytes) .refusal ≡ 0 → SetIn bytes (setUp state (unpackOf setups bytes))
+unfolding bookOf
+setup-holds bytes state h = by (unpackOf setups bytes) refl (eqb (length state) 1564) refl h
+  where
+    by : (u : Option Setup) → unpackOf setups bytes ≡ u → (b : Bool) → eqb (length state) 1564 ≡ b → setUp state u .refusal ≡ 0 → SetIn bytes (setUp state u)
+    by none q b l z = absurd (omega (arith, z))
+    by (some s) q false l z =
+        let n : _≡_ {A = ℕ} 11 0 = sym (ap (λ (c : Bool). put state s c .refusal) l) ∙ z in
+        absurd (omega (arith, n))
+    by (some s) q true l z =
+        let sound = setup-sound bytes s q in
+        record {
+          setup = s;
+          read = q;
+          holds =
+              ap (λ (c : Bool). unpackSeries (put state s c .state)) l
+              ∙ pack-series (newSeries s) (seriesBytes (newSeries s)) (sound-state (newSeries s) sound refl refl);
+          sound = sound;
+        }
+
+-- A REFUSED SETUP LEAVES THE BUFFER AS IT STOOD
+pub setup-keeps : (bytes state : List ℕ) → (setUp state (unpackOf setups bytes) .refusal ≡ 0 → ⊥) → setUp state (unpackOf setups bytes) .state ≡ state
+setup-keeps bytes state h = by (unpackOf setups bytes) (eqb (length state) 1564) refl h
+  where
+    by : (u : Option Setup) (b : Bool) → eqb (length state) 1564 ≡ b → (setUp state u .refusal ≡ 0 → ⊥) → setUp state u .state ≡ state
+    by none b l k = refl
+    by (some s) false l k = ap (λ (c : Bool). put state s c .state) l
+    by (some s) true l k =
+        absurd (k (ap (λ (c : Bool). put state s c .refusal) l))
