@@ -1,27 +1,25 @@
 -- What a check without a series says of every series with that M.
 -- Assumes nothing.
-use Prim.Native.Nat.{ℕ, _≤_, _<_}
+use Prim.Native.Nat.{ℕ, _≤_}
 use mathlib.Core.Path.{_≡_, refl, sym, ap, _∙_, subst}
 use mathlib.Core.Bool.{Bool, true, false, cond, not}
 use mathlib.Core.List.{List, [], _∷_, _++_}
 use mathlib.Core.Option.{Option, none, some}
 use native.Mathlib.Omega.{arith}
-use lib.Dec.{eqb, ltb}
+use lib.Dec.{ltb}
 use lib.ListN.{length, drop}
 use borrow.Author.Tests.{le-ltb}
 use Rattle.prices.specs.Step.{mpv}
 use Rattle.lists.specs.Tests.{All}
 use Rattle.lists.proofs.Bools.{and-left}
 use Rattle.packing.specs.declared.message.Event.{Event}
-use Rattle.packing.specs.declared.message.Unpacked.{Unpacked}
 use Rattle.packing.specs.declared.message.Unpacked.the-variants.{Message, Nothing}
 use Rattle.packing.specs.Codec.{unpackOf, answerOf}
-use Rattle.packing.specs.Message.{messages, unpacked, saidBy}
+use Rattle.packing.specs.Message.{messages, saidBy}
 use Rattle.series.specs.declared.Series.{Series}
 use Rattle.series.specs.Series.{soundSeries, soundTerms}
-use Rattle.handler.specs.declared.Ask.{Ask}
 use Rattle.handler.specs.Asked.{askOf}
-use Rattle.handler.specs.Refuse.{badParty, badPrice, badQuantity, firstHolding, refusals}
+use Rattle.handler.specs.Refuse.{firstHolding, refusals}
 use Rattle.handler.specs.Handle.{handled}
 use Rattle.handler.proofs.Refusals.{table, first-none, refusals-in-order}
 use Rattle.server.specs.Check.{isMessage, faults, faultOf, check}

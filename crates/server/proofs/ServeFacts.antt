@@ -12,7 +12,7 @@ use borrow.Author.Tests.{le-ltb}
 use Rattle.lists.proofs.Bools.{and-left}
 use Rattle.bits.specs.Fields.{Fit, Bytes}
 use Rattle.packing.specs.declared.message.Event.{Event}
-use Rattle.packing.specs.Codec.{bit, onlyIf, packs, unpackOf}
+use Rattle.packing.specs.Codec.{bit, onlyIf, unpackOf}
 use Rattle.packing.specs.Message.{messages}
 use Rattle.packing.specs.declared.setup.Setup.{Setup}
 use Rattle.packing.specs.Setup.{setups}

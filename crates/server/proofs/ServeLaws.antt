@@ -3,13 +3,12 @@
 use Prim.Native.Nat.{ℕ, _≤_, _<_}
 use mathlib.Core.Path.{_≡_, refl, sym, ap, _∙_, subst⁻¹}
 use mathlib.Core.Bool.{Bool, true, false, cond, _&&_, and-true}
-use mathlib.Core.List.{List, []}
+use mathlib.Core.List.{List}
 use mathlib.Core.Option.{Option, none, some}
 use native.Mathlib.Omega.{arith}
-use lib.Dec.{eqb, ltb}
+use lib.Dec.{eqb}
 use lib.ListN.{length}
-use borrow.Author.Tests.{eqb-true, eq-eqb, ne-eqb, lt-ltb, le-ltb}
-use Rattle.lists.proofs.Bools.{and-left, and-right}
+use borrow.Author.Tests.{eqb-true, eq-eqb, lt-ltb, le-ltb}
 use Rattle.bits.specs.Fields.{Bytes}
 use Rattle.packing.specs.declared.setup.Setup.{Setup}
 use Rattle.packing.specs.Codec.{onlyIf, unpackOf}
@@ -23,11 +22,11 @@ use Rattle.handler.specs.declared.Answer.{Answer}
 use Rattle.handler.specs.Handle.{Handled, answered, handled}
 use Rattle.handler.proofs.Refusals.{Unchanged, refusals-keep}
 use Rattle.state.specs.declared.Unpacked.{Unpacked}
-use Rattle.state.specs.State.{made, entriesIn, unpackSeries, packsSeries, seriesBytes, packSeries, unpacked, isStored, bufferAfter}
+use Rattle.state.specs.State.{unpackSeries, packsSeries, seriesBytes, packSeries, unpacked, isStored, bufferAfter}
 use Rattle.state.proofs.RoundTrip.{series-pack}
 use Rattle.state.proofs.StateLaws.{other-length}
 use Rattle.state.proofs.SoundPacks.{sound-packs}
-use Rattle.server.specs.Serve.{SetUp, setUp, Served, served, unserved, holding, packedAgain, serveIn, serve}
+use Rattle.server.specs.Serve.{SetUp, setUp, served, unserved, holding, packedAgain, serveIn, serve}
 
 -- ---- what an unpacked series tells ----
 

@@ -7,7 +7,7 @@ use mathlib.Core.Option.{Option, none, some}
 use Rattle.prices.specs.Step.{mpv}
 use Rattle.packing.specs.declared.message.Event.{Event}
 use Rattle.packing.specs.Codec.{nothing, unpackOf, answerOf}
-use Rattle.packing.specs.Message.{messages, messageAt}
+use Rattle.packing.specs.Message.{messages}
 use Rattle.handler.specs.declared.Ask.{Ask}
 use Rattle.handler.specs.Asked.{askOf}
 use Rattle.handler.specs.Refuse.{badParty, badPrice, badQuantity, firstHolding}

@@ -1,15 +1,13 @@
 -- The handler for a caller who keeps the series in a buffer of 1,564 bytes: `handled` on the unpacked series, packed again.
 -- Assumes nothing.
 use Prim.Native.Nat.{ℕ}
-use mathlib.Core.Bool.{Bool, cond}
+use mathlib.Core.Bool.{cond}
 use mathlib.Core.List.{List}
 use mathlib.Core.Option.{Option, none, some}
 use lib.Dec.{eqb, ltb}
 use lib.ListN.{length}
 use Rattle.packing.specs.declared.setup.Setup.{Setup}
-use Rattle.packing.specs.Codec.{nothing, unpackOf}
-use Rattle.packing.specs.Setup.{setups}
-use Rattle.packing.specs.Message.{messageAt}
+use Rattle.packing.specs.Codec.{nothing}
 use Rattle.series.specs.declared.Series.{Series}
 use Rattle.series.specs.Series.{newSeries}
 use Rattle.handler.specs.Handle.{Handled, handled}

@@ -1,10 +1,9 @@
 -- Entries: their table is lawful, so that the laws of `CodecLaws` hold of them.
 -- Assumes nothing.
 use Prim.Native.Nat.{ℕ, _<_}
-use mathlib.Core.Bool.{Bool, true, false}
 use mathlib.Core.List.{List}
 use mathlib.Core.Option.{Option, some}
-use mathlib.Core.Path.{_≡_, refl, ap}
+use mathlib.Core.Path.{_≡_, refl}
 use lib.ListN.{getD}
 use Rattle.bits.specs.Fields.{join, bytes}
 use Rattle.bits.proofs.FieldLaws.{split-fit}

@@ -1,10 +1,9 @@
 -- The header: its table is lawful, so that the laws of `CodecLaws` hold of it.
 -- Assumes nothing.
-use Prim.Native.Nat.{ℕ}
-use mathlib.Core.Bool.{Bool, true, false}
+use mathlib.Core.Bool.{Bool}
 use mathlib.Core.List.{List, [], _∷_, map}
 use mathlib.Core.Option.{Option, some}
-use mathlib.Core.Path.{_≡_, refl, ap, ap₂}
+use mathlib.Core.Path.{_≡_, refl, ap₂}
 use Rattle.packing.specs.Codec.{bit}
 use Rattle.packing.proofs.CodecLaws.{Lawful, bit-is}
 use Rattle.state.specs.declared.Header.{Header}

@@ -1,24 +1,23 @@
 -- PACKING AND UNPACKING A SERIES ARE INVERSE, BOTH WAYS, for all bytes and all series.
 -- Assumes nothing.
-use Prim.Native.Nat.{ℕ, zero, suc, _+_, _*_, _≤_, _<_}
+use Prim.Native.Nat.{ℕ, zero, suc, _*_}
 use mathlib.Core.Path.{_≡_, refl, sym, ap, ap₂, _∙_}
 use mathlib.Core.Bool.{Bool, true, false, _&&_}
 use mathlib.Core.List.{List, [], _∷_, _++_}
 use mathlib.Core.Option.{Option, none, some}
 use native.Mathlib.Omega.{arith}
 use lib.Dec.{eqb}
-use lib.ListN.{length, take, drop, getD, length-append, length-drop, take-append-drop}
-use lib.Seq.{take-at, drop-at, getD-take}
+use lib.ListN.{length, take, drop, length-append, length-drop, take-append-drop}
+use lib.Seq.{take-at, drop-at}
 use borrow.Author.Tests.{eqb-true, eq-eqb}
 use Rattle.lists.specs.Tests.{all}
 use Rattle.lists.proofs.Bools.{and-left, and-right}
 use Rattle.bits.specs.Fields.{Bytes}
 use Rattle.bits.proofs.ByteLaws.{bytes-drop}
-use Rattle.packing.specs.Codec.{Codec, onlyIf, bytesOf, packs, unpackOf}
+use Rattle.packing.specs.Codec.{onlyIf, bytesOf, packs, unpackOf}
 use Rattle.packing.proofs.CodecLaws.{unpack-pack, pack-unpack, packed-bytes, pack-packs, length-bytes}
 use Rattle.book.specs.declared.Entry.{Entry}
 use Rattle.series.specs.declared.Series.{Series}
-use Rattle.series.specs.Series.{noSeries}
 use Rattle.state.specs.declared.Header.{Header}
 use Rattle.state.specs.Header.{headers}
 use Rattle.state.specs.Entry.{entries}

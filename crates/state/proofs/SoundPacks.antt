@@ -20,7 +20,7 @@ use Rattle.packing.proofs.CodecLaws.{fit-packs}
 use Rattle.book.specs.declared.Entry.{Entry}
 use Rattle.book.specs.declared.Pricing.{Pricing}
 use Rattle.book.specs.declared.Pricing.the-variants.{Fixed, Dark, Sliding}
-use Rattle.book.specs.Shape.{zeroEntry, entriesOf}
+use Rattle.book.specs.Shape.{entriesOf}
 use Rattle.sound.specs.Sound.{unusedEntry}
 use Rattle.sound.proofs.Facts.{PricedAs, EntryFacts}
 use Rattle.sound.proofs.Decides.{is-sound}

@@ -1,9 +1,9 @@
 -- The 24 bytes of one place of the book.
 -- Assumes nothing.
 use Prim.Native.Nat.{ℕ}
-use mathlib.Core.Bool.{Bool, true, cond}
+use mathlib.Core.Bool.{true, cond}
 use mathlib.Core.List.{List, [], _∷_}
-use mathlib.Core.Option.{Option, some}
+use mathlib.Core.Option.{some}
 use lib.Dec.{eqb}
 use lib.ListN.{getD}
 use Rattle.packing.specs.Codec.{Codec, bit}

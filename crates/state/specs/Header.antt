@@ -2,8 +2,8 @@
 -- Assumes nothing.
 use Prim.Native.Nat.{ℕ}
 use mathlib.Core.Bool.{Bool, true}
-use mathlib.Core.List.{List, [], _∷_, _++_, map}
-use mathlib.Core.Option.{Option, some}
+use mathlib.Core.List.{List, _∷_, map}
+use mathlib.Core.Option.{some}
 use lib.Dec.{eqb}
 use lib.ListN.{getD, drop, replicate}
 use Rattle.packing.specs.Codec.{Codec, bit}

@@ -5,7 +5,7 @@ use Rattle.lists.proofs.LoopLaws.{Checking, check-start, check-past, check-fail
 use Rattle.lists.specs.Tests.{all}
 use borrow.Author.Tests.{not-true, not-false}
 use lib.Seq.{take-all}
-use lib.ListN.{length, length-map}
+use lib.ListN.{length}
 use native.Mathlib.Omega.{arith}
 use mathlib.Core.Path.{_≡_, _∙_, sym, ap}
 use Prim.Native.Nat.{_-_}

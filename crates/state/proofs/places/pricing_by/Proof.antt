@@ -1,5 +1,4 @@
 use borrow.Author.Tests.{eq-eqb, ne-eqb}
-use borrow.Author.Needs.{needs}
 use Rattle.state.proofs.places.pricing_by.Statement.{statement}
 use Rattle.state.proofs.places.pricing_by.Tie as tie
 

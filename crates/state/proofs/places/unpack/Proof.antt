@@ -6,7 +6,7 @@ use Rattle.packing.proofs.CodecLaws.{unpack-long, thing-if}
 use Rattle.state.specs.Entry.{entries}
 use mathlib.Core.Bool.{true, and-true}
 use mathlib.Core.Option.{some}
-use mathlib.Core.Path.{_≡_, refl, sym, ap, _∙_, subst}
+use mathlib.Core.Path.{refl, sym, ap, _∙_, subst}
 use denote.Ref.{now}
 use borrow.Author.Needs.{needs}
 use Rattle.state.proofs.places.unpack.Statement.{statement}

@@ -1,6 +1,5 @@
 use Rattle.state.proofs.PlacesLaws.{Reading, part-read, read-start, read-fail, read-past, read-done}
 use borrow.Author.Tests.{not-true, not-false}
-use native.Mathlib.Omega.{arith}
 use mathlib.Core.Path.{refl}
 use Prim.Native.Nat.{_-_}
 use borrow.Author.Needs.{needs}

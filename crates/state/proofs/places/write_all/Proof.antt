@@ -1,6 +1,6 @@
 use Rattle.state.proofs.PlacesLaws.{Writing, part-written, write-start, write-past, write-done}
 use native.Mathlib.Omega.{arith}
-use mathlib.Core.Path.{refl, sym, _∙_}
+use mathlib.Core.Path.{sym, _∙_}
 use Prim.Native.Nat.{_+_, _-_, _*_}
 use borrow.Author.Needs.{needs}
 use Rattle.state.proofs.places.write_all.Statement.{statement}

@@ -5,7 +5,7 @@ use Rattle.state.specs.declared.Header.{Header}
 use Rattle.packing.specs.Codec.{packs}
 use borrow.Author.Tests.{not-true, not-false}
 use native.Mathlib.Omega.{arith}
-use mathlib.Core.Path.{refl, sym, ap, _∙_}
+use mathlib.Core.Path.{sym, ap, _∙_}
 use denote.Ref.{now}
 use borrow.Author.Needs.{needs}
 use Rattle.state.proofs.whole.pack_series.Statement.{statement}
