@@ -21,6 +21,7 @@ use Rattle.book.proofs.ShapeLaws.{book-well-formed}
 use Rattle.book.specs.Shape.{entriesOf, bookOf}
 use Rattle.series.specs.declared.Series.{Series}
 use Rattle.series.specs.Series.{soundSeries, newSeries}
+use Rattle.series.proofs.Decides.{sound-series-decides}
 use Rattle.series.proofs.SetupSound.{setup-sound}
 use Rattle.handler.specs.declared.Ask.{Ask}
 use Rattle.arrival.specs.Arrive.{blocks}
@@ -161,7 +162,7 @@ setup-holds bytes state h = by (unpackOf setups bytes) refl (eqb (length state) 
         let n : _≡_ {A = ℕ} 11 0 = sym (ap (λ (c : Bool). put state s c .refusal) l) ∙ z in
         absurd (omega (arith, n))
     by (some s) q true l z =
-        let sound = setup-sound bytes s q in
+        let sound = sound-series-decides (newSeries s) .1 (setup-sound bytes s q) in
         record {
           setup = s;
           read = q;

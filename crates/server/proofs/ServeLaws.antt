@@ -17,6 +17,7 @@ use Rattle.book.specs.Shape.{bookOf}
 use Rattle.series.specs.declared.Series.{Series}
 use Rattle.series.specs.declared.Made.{Made}
 use Rattle.series.specs.Series.{newSeries, opened}
+use Rattle.series.proofs.Decides.{sound-series-decides}
 use Rattle.series.proofs.SetupSound.{setup-sound}
 use Rattle.handler.specs.declared.Answer.{Answer}
 use Rattle.handler.specs.Handle.{Handled, answered, handled}
@@ -102,7 +103,7 @@ was-opened (some s) h = absurd (h refl)
 
 new-packs : (bytes : List ℕ) (s : Setup) → unpackOf setups bytes ≡ some s → packsSeries (newSeries s) ≡ true
 unfolding bookOf
-new-packs bytes s h = sound-packs (newSeries s) (setup-sound bytes s h) refl refl
+new-packs bytes s h = sound-packs (newSeries s) (sound-series-decides (newSeries s) .1 (setup-sound bytes s h)) refl refl
 
 module _ (bytes state : List ℕ) (m : Made) (is : m ≡ opened (unpackOf setups bytes)) where
   pub setup-refused : (m .refusal ≡ 0 → ⊥) → _≡_ {A = SetUp} (record { refusal = 1; state = state }) (setUp state (unpackOf setups bytes))

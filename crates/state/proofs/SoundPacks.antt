@@ -2,16 +2,16 @@
 -- Assumes nothing.
 use Prim.Native.Nat.{ℕ, _≤_, _<_}
 use mathlib.Core.Path.{_≡_, refl, sym, ap, subst, _∙_}
-use mathlib.Core.Bool.{Bool, true, false}
+use mathlib.Core.Bool.{Bool, true, false, _&&_}
 use mathlib.Core.List.{List, [], _∷_, _++_, map}
 use mathlib.Core.Option.{some}
 use native.Mathlib.Omega.{arith}
 use lib.Dec.{eqb, leb}
-use borrow.Author.Tests.{eqb-true, leb-true}
+use borrow.Author.Tests.{eqb-true}
 use lib.ListN.{length, take, drop, replicate, take-append-drop}
 use Rattle.prices.specs.Step.{given}
 use Rattle.prices.proofs.StepLaws.{is-mpv, small, is-given}
-use Rattle.lists.proofs.Bools.{and-right}
+use Rattle.lists.proofs.Bools.{and-left, and-right}
 use Rattle.lists.specs.Tests.{All, all}
 use Rattle.lists.proofs.TestLaws.{all-map, all-append, all-true, true-all}
 use Rattle.bits.specs.Fields.{Fit}
@@ -21,12 +21,13 @@ use Rattle.book.specs.declared.Entry.{Entry}
 use Rattle.book.specs.declared.Pricing.{Pricing}
 use Rattle.book.specs.declared.Pricing.the-variants.{Fixed, Dark, Sliding}
 use Rattle.book.specs.Shape.{entriesOf}
-use Rattle.sound.specs.Sound.{unusedEntry}
+use Rattle.sound.specs.Sound.{unusedEntry, soundEntries, soundBook}
 use Rattle.sound.proofs.Facts.{PricedAs, EntryFacts}
 use Rattle.sound.proofs.Decides.{is-sound}
 use Rattle.checking.proofs.BookLaws.{unused-zero}
 use Rattle.series.specs.declared.Series.{Series}
-use Rattle.series.specs.Series.{soundSeries}
+use Rattle.series.specs.Series.{soundSeries, soundTerms, soundPhase}
+use Rattle.series.proofs.TermsLaws.{price-given}
 use Rattle.series.proofs.SeriesFacts.{SeriesFacts, series-facts}
 use Rattle.state.specs.Header.{headers}
 use Rattle.state.specs.Entry.{entries, pricingNumber, ownDisplay}
@@ -101,29 +102,29 @@ module _ (s : Series) (sound : soundSeries s ≡ true) (places : length (s .book
 
   header-packs : packs headers (headerOf s) ≡ true
   header-packs =
-      let t = facts .terms in
+      let t = facts .sound .terms in
       fit-packs headers (headerOf s) (
-        omega (arith, small (is-mpv (s .terms .m) (t .step)) .1),
+        omega (arith, small (is-mpv (s .terms .m) (facts .step)) .1),
         (
           omega (arith, t .steps),
           (
-            omega (arith, leb-true (s .terms .strike) 100000 (and-right (leb 1 (s .terms .strike)) (leb (s .terms .strike) 100000) (t .strike))),
+            omega (arith, t .strike .1),
             (
               omega (arith, t .phase),
               (
-                omega (arith, given-few (s .terms .bid) (t .bid)),
+                omega (arith, given-few (s .terms .bid) (price-given (s .terms .m) (s .terms .bid) (t .bid))),
                 (
-                  omega (arith, given-few (s .terms .offer) (t .offer)),
+                  omega (arith, given-few (s .terms .offer) (price-given (s .terms .m) (s .terms .offer) (t .offer))),
                   (
                     omega (arith, t .underlying),
                     (
-                      omega (arith, t .numbers),
+                      omega (arith, facts .sound .most),
                       (
                         omega (arith, bit-fits (s .terms .put)),
                         (
                           omega (arith, bit-fits (s .terms .exempt)),
                           (
-                            omega (arith, facts .book .few),
+                            omega (arith, facts .sound .few),
                             subst (λ (n : ℕ). Fit (replicate n 1) (map bit (s .blocked))) makers (flags-fit (s .blocked)),
                           ),
                         ),
@@ -141,13 +142,24 @@ module _ (s : Series) (sound : soundSeries s ≡ true) (places : length (s .book
   resting-pack : All (λ (e : Entry). packs entries e ≡ true) (take (s .book .count) (s .book .entries))
   unfolding entriesOf
   resting-pack =
-      all-map (entry-packs (s .terms .m) (s .terms .given) (facts .terms .numbers)) (entriesOf (s .book))
-      (is-sound (s .terms .m) (s .terms .given) (entriesOf (s .book)) (facts .terms .step) (facts .book .entries) .entries)
+      all-map (entry-packs (s .terms .m) (s .terms .given) (facts .sound .most)) (entriesOf (s .book))
+      (is-sound (s .terms .m) (s .terms .given) (entriesOf (s .book)) (facts .step) (facts .entries) .entries)
+
+  unused : all unusedEntry (drop (s .book .count) (s .book .entries)) ≡ true
+  unfolding soundSeries soundBook
+  unused =
+      let t = s .terms in
+      let b = s .book in
+      let rest = all unusedEntry (drop (b .count) (b .entries)) in
+      let book = soundBook (t .m) (t .given) b in
+      and-right (soundEntries (t .m) (t .given) (entriesOf b)) rest
+      (and-right (leb (b .count) 64) (soundEntries (t .m) (t .given) (entriesOf b) && rest)
+      (and-left book (soundPhase (t .phase) (entriesOf b)) (and-right (soundTerms t) (book && soundPhase (t .phase) (entriesOf b)) sound)))
 
   unused-pack : All (λ (e : Entry). packs entries e ≡ true) (drop (s .book .count) (s .book .entries))
   unused-pack =
       all-map zero-packs (drop (s .book .count) (s .book .entries))
-      (all-true unusedEntry (drop (s .book .count) (s .book .entries)) (facts .book .unused))
+      (all-true unusedEntry (drop (s .book .count) (s .book .entries)) unused)
 
   entries-pack : all (packs entries) (s .book .entries) ≡ true
   entries-pack =
