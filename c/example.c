@@ -1,5 +1,5 @@
 /* The small server loop to start from: a setup and then messages on standard input, each answered with its reports, one line each: the
- * message's number, then the report's nine fields. It writes what the session program writes. */
+ * message's number, then the report's nine fields. It writes what the session program writes, and each answer before it waits for more. */
 #include "waxglimmer.h"
 
 #include <stdio.h>
@@ -28,22 +28,39 @@ static void print_report(unsigned long number, const uint8_t *report) {
   putchar('\n');
 }
 
+/* 0 if all could be read and written; else it says so, and what was written is not whole */
+static int ended(void) {
+  if (ferror(stdin)) {
+    perror("example: standard input");
+    return 1;
+  }
+  if (fflush(stdout) != 0 || ferror(stdout)) {
+    perror("example: standard output");
+    return 1;
+  }
+  return 0;
+}
+
 int main(void) {
   uint8_t setup[WAXGLIMMER_SETUP], message[WAXGLIMMER_MESSAGE];
   size_t length = fread(setup, 1, sizeof setup, stdin);
+  if (ferror(stdin))
+    return ended();
   uint32_t refusal = waxglimmer_setup(setup, length, state, sizeof state);
   if (refusal != 0) {
     printf("0 refused %lu\n", (unsigned long)refusal);
-    return 0;
+    return ended();
   }
   /* a short last message is handed over too, and refused */
-  for (unsigned long number = 1; (length = fread(message, 1, sizeof message, stdin)) > 0; number++) {
+  for (unsigned long number = 1; (length = fread(message, 1, sizeof message, stdin)) > 0 && !ferror(stdin); number++) {
     size_t count;
     refusal = waxglimmer_handle(state, sizeof state, message, length, room, sizeof room, &count);
     if (refusal != 0)
       printf("%lu refused %lu\n", number, (unsigned long)refusal);
     for (size_t i = 0; i < count; i++)
       print_report(number, room + i * WAXGLIMMER_REPORT);
+    if (fflush(stdout) != 0)
+      break;
   }
-  return 0;
+  return ended();
 }

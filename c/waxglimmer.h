@@ -1,22 +1,44 @@
 /* Waxglimmer for C: one option series, held in a buffer that the caller owns.
  *
- * Every function answers a number: 0, or a refusal of document 01. What each answers, and what every lent byte holds afterwards, is proved
- * for all inputs (crates/server). A refusal leaves every lent byte as it stood, and count 0.
+ * Every function answers a number: 0, or a refusal. What each answers, and what every lent byte holds afterwards, is proved for all inputs
+ * (crates/server). A refusal leaves state and room as they stood; *count, *display and *working are then 0.
  *
- *   1  a setup or a message of wrong length, unknown kind, a nonzero unused bit or field
- *   2  party out of range            6  the maker is blocked
- *   3  a price out of range          7  64 entries rest
- *   4  quantity or phase out of range  8  no such entry of that party, or no such quote
- *   5  the series is not open        9  entry 1,000,000 has been given
+ * Refusals, in the order in which they are tested:
+ *
  *  10  the report room is under WAXGLIMMER_ROOM bytes
  *  11  the state buffer holds no sound series, or has not WAXGLIMMER_STATE bytes
+ *   1  a message (or a setup) of wrong length, unknown kind, a nonzero unused bit or field; a setup of other values
+ *   2  party: outside 1 to 99; quotes, withdrawals of quotes and enabling: outside 1 to 16
+ *   3  a price out of range, or off the grid of M (but for the underlying)
+ *   4  quantity outside 1 to 99,999, or a phase above 2
+ *   5  a quote or order, and the series is not open
+ *   6  a quote, and its maker is blocked
+ *   7  a quote or order, and 64 entries rest, not counting the quote that it replaces
+ *   9  a quote or order, and entry number 1,000,000 has been given
+ *   8  a cancellation: no such entry of that party, or no such quote
+ *
+ * Bytes: fields in bits, from the first byte's most significant bit on. What a kind does not name is 0.
+ *
+ *   setup     put 1, exempt 1, M 4, K 7, strike 17, zero 2
+ *   message   kind 4, party 7, side 1 (0 buy, 1 sell), price 17, quantity 17, second price 17, entry 20, zero 5
+ *               1 to 4 plain, MMLO, MMALO, MMRP quote, 5 displayed order, 6 dark order: party, side, price (limit), quantity
+ *               7 cancel own entry: party, entry         8 cancel own quote: party, side
+ *               9 away bid and offer: price, second price (0 for none)
+ *              10 underlying: price (0 for none)        11 phase (0 closed, 1 open, 2 halted): quantity        12 enable a maker: party
+ *   report    kind 3, reason 5, side 1, party 7, entry 20, other entry 20, price 17, second price 17, quantity 17, zero 5
+ *               1 noted, 2 rejected, 3 traded, 4 rested, 5 repriced, 6 cancelled: README.md has the fields and the reasons
+ *
+ * The archive: `rt staticlib server` proves it and writes target/staticlib/libserver.a, for x86-64 Linux;
+ * `cc -o example c/example.c target/staticlib/libserver.a` links it. It allocates nothing, keeps nothing between calls, does no input or
+ * output, and calls nothing but memcpy and the like; a call takes some 48 KB of stack. A state buffer can be copied and stored as bytes.
  *
  * What no header can promise is the caller's to see to:
  *   - a length beside a pointer is the number of bytes that may be read (and, of state and room, written) from there; a wrong length is
- *     undefined, and so is a null or dangling pointer, even with length 0;
+ *     undefined, and so is a null or dangling pointer, even with length 0; byte buffers may stand at any address, count, display and
+ *     working where their types may;
  *   - two buffers that one call is lent do not overlap, if the call writes one of them: state, room, count, display and working are
  *     written, setup, message and run are only read;
- *   - no other thread uses a lent buffer during the call. Calls on different buffers may run at the same time: nothing else is kept.
+ *   - no other thread uses a lent buffer during the call. Calls on different buffers may run at the same time.
  */
 #ifndef WAXGLIMMER_H
 #define WAXGLIMMER_H
@@ -46,8 +68,8 @@ uint32_t waxglimmer_aims(uint32_t kind, uint32_t side, uint32_t limit, uint32_t 
 uint32_t waxglimmer_is_message(const uint8_t *message, size_t length);
 uint32_t waxglimmer_is_message_at(const uint8_t *run, size_t length, size_t at);
 
-/* Which of the refusals 1 to 4 would a series with this m give the message? The first that applies; 0 for none of them; 11 for an m that
- * is not 1, 5 or 10, since no sound series has it. */
+/* Which of the refusals 1 to 4 would a series with this m give the message? The first that applies; 0 for none of them. First of all, 11
+ * for an m that is not 1, 5 or 10, since no sound series has it. */
 uint32_t waxglimmer_check(const uint8_t *message, size_t length, uint32_t m);
 uint32_t waxglimmer_check_at(const uint8_t *run, size_t length, size_t at, uint32_t m);
 
