@@ -37,7 +37,7 @@ ghost use Rattle.arrival.specs.Arrive.{noneTraded, protectionFor, stopsA
 ghost use Rattle.arrival.specs.Cancel.{Asks};
 ghost use Rattle.arrival.specs.Asks.{Enters, Finishes, Rests, TakesOn, TookAs, Arrives};
 
-fn guard_of(t: Terms) -> Guard
+pub fn guard_of(t: Terms) -> Guard
     ensures { λ r. ⌜ r ≡ guardOf t ⌝ }
 {
     Guard {

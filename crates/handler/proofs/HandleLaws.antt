@@ -1,7 +1,7 @@
 -- What the handler's code comes to, test by test and stage by stage.
 -- Assumes nothing.
 use Prim.Native.Nat.{ℕ, _+_, _-_, _≤_, _<_}
-use mathlib.Core.Path.{_≡_, refl, sym, ap, _∙_, subst}
+use mathlib.Core.Path.{_≡_, refl, sym, ap, ap₂, _∙_, subst}
 use mathlib.Core.Bool.{Bool, true, false, cond, not, _&&_, _||_}
 use mathlib.Core.List.{List}
 use native.Mathlib.Omega.{arith}
@@ -16,18 +16,22 @@ use Rattle.checking.proofs.SummaryLaws.{any-quote}
 use Rattle.book.specs.declared.Entry.{Entry}
 use Rattle.book.specs.declared.Book.{Book}
 use Rattle.book.specs.Shape.{entriesOf, WellFormed}
-use Rattle.book.specs.Entries.{quoteOf}
-use Rattle.book.specs.Look.{rankOf, quoteIn}
+use Rattle.prices.specs.Side.{away}
+use Rattle.prices.specs.Protect.{bars24, bars25, bars26, firstBar, protection}
+use Rattle.book.specs.Entries.{quote, quoteOf}
+use Rattle.book.specs.Look.{rankOf, quoteIn, national}
 use Rattle.sound.specs.Sound.{between}
 use Rattle.arrival.specs.declared.Terms.{Terms}
-use Rattle.arrival.specs.Arrive.{rejection, bothQuotes, blocks}
+use Rattle.arrival.specs.Terms.{marketOf, guardOf}
+use Rattle.arrival.specs.Arrive.{protectionFor, stopsAtOnce, orElse, rejection, bothQuotes, blocks}
+use Rattle.arrival.proofs.ReasonLaws.{at-once-among}
 use Rattle.arrival.specs.Asks.{Enters}
 use Rattle.series.specs.declared.Series.{Series}
 use Rattle.handler.specs.declared.Ask.{Ask}
 use Rattle.handler.specs.Asked.{enters, quotes}
 use Rattle.handler.specs.Refuse.{makersOnly, badParty, isFull, isNowhere, isMissing, goneAt, refusalOf}
 use Rattle.handler.specs.Accept.{comer, termsAfter}
-use Rattle.handler.specs.Acts.{Whole, Acts}
+use Rattle.handler.specs.Acts.{Whole, Acts, BlocksFor}
 use Rattle.handler.proofs.Passed.{Accepted, facts, tests, accepted-arriving}
 
 -- ---- the party ----
@@ -131,9 +135,25 @@ module _ {s : Series} {a : Ask} (x : Acts s a) where
       subst (λ (y : Entry). Enters (s .terms) y (s .book)) (sym q)
       (record { well = x .whole .well; arriving = accepted-arriving s a (acts-accepted x) (le-leb (a .kind) 6 k) })
 
-pub blocking-quote : (t : Terms) (a : Ask) (l : List Entry) (e : Entry) (why : ℕ) → a .kind ≤ 4 → e ≡ comer (t .given) a → why ≡ rejection t e l
-    → (eqb why 25 || eqb why 26) ≡ (quotes a && blocks t (comer (t .given) a) l)
-unfolding blocks
-blocking-quote t a l e why k q w =
-    ap (λ (n : ℕ). eqb n 25 || eqb n 26) (w ∙ ap (λ (y : Entry). rejection t y l) q)
-    ∙ sym (ap (λ (b : Bool). b && bothQuotes (rejection t (comer (t .given) a) l)) (le-leb (a .kind) 4 k))
+-- 25 and 26 are told by the series' numbers and the limit alone
+pub blocks-by : (t : Terms) (e : Entry) (l : List Entry) → quote e ≡ true
+    → (bars25 (guardOf t) (e .sell) (e .limit) || bars26 (guardOf t) (e .sell) (e .limit)) ≡ blocks t e l
+unfolding blocks rejection protectionFor protection
+blocks-by t e l q =
+    rw q (by (bars25 (guardOf t) (e .sell) (e .limit)) (bars26 (guardOf t) (e .sell) (e .limit))
+    (bars24 (e .sell) (national (e .sell) (away (marketOf t) (e .sell)) l) (e .limit)) (stopsAtOnce t e l) (at-once-among t e l .most))
+  where
+    by : (a b c : Bool) (why : ℕ) → why ≤ 23 → (a || b) ≡ bothQuotes (orElse (firstBar a b c) why)
+    by true b c why h = refl
+    by false true c why h = refl
+    by false false true why h = refl
+    by false false false why h = sym (rw (ne-eqb why 25 (λ z. omega (arith, z)), ne-eqb why 26 (λ z. omega (arith, z))) refl)
+
+pub blocking-quote : (t : Terms) (a : Ask) (b25 b26 : Bool) → a .kind ≤ 4 → b25 ≡ bars25 (guardOf t) (a .sell) (a .price)
+    → b26 ≡ bars26 (guardOf t) (a .sell) (a .price) → (l : List Entry) → (b25 || b26) ≡ (quotes a && blocks t (comer (t .given) a) l)
+blocking-quote t a b25 b26 k p q l =
+    ap₂ _||_ p q ∙ blocks-by t (comer (t .given) a) l (le-leb (a .kind) 4 k)
+    ∙ sym (ap (λ (b : Bool). b && blocks t (comer (t .given) a) l) (le-leb (a .kind) 4 k))
+
+pub never-blocks : (t : Terms) (a : Ask) → 4 < a .kind → BlocksFor false t a
+never-blocks t a k l = sym (ap (λ (b : Bool). b && blocks t (comer (t .given) a) l) (lt-leb (a .kind) 4 k))

@@ -3,21 +3,23 @@
 -- Assumes nothing.
 use Prim.Native.Nat.{ℕ, _-_, _≤_}
 use mathlib.Core.Path.{_≡_}
-use mathlib.Core.Bool.{Bool, true, false, cond}
+use mathlib.Core.Bool.{Bool, true, false, cond, _&&_}
 use mathlib.Core.List.{List}
 use lib.Dec.{eqb}
 use lib.ListN.{length, set}
+use Rattle.book.specs.declared.Entry.{Entry}
 use Rattle.book.specs.declared.Book.{Book}
 use Rattle.book.specs.Shape.{entriesOf, WellFormed}
 use Rattle.settling.specs.Stage.{Roomy, SoundFor}
 use Rattle.arrival.specs.declared.Terms.{Terms}
 use Rattle.arrival.specs.Terms.{marketOf}
+use Rattle.arrival.specs.Arrive.{blocks}
 use Rattle.series.specs.declared.Series.{Series}
 use Rattle.series.specs.Series.{soundSeries}
 use Rattle.handler.specs.declared.Ask.{Ask}
 use Rattle.handler.specs.Asked.{quotes}
 use Rattle.handler.specs.Refuse.{badParty, refusalOf}
-use Rattle.handler.specs.Accept.{settledIf}
+use Rattle.handler.specs.Accept.{comer, settledIf}
 use Rattle.handler.specs.Handle.{beforeReading}
 
 -- a sound series, with its arrays of 64 and 16 places
@@ -42,6 +44,10 @@ pub record SettlesIf (t : Terms) (b : Book) (room : List ℕ) (n : ℕ) : Type 0
   pub well : WellFormed b
   pub sound : SoundFor (marketOf t) (entriesOf b)
   pub roomy : Roomy room n (settledIf t (entriesOf b) .records)
+
+-- whether a message is a quote that is rejected for a reason that blocks its maker, whatever rests
+abbrev pub BlocksFor : Bool → Terms → Ask → Type 0
+BlocksFor blocking t a = (l : List Entry) → blocking ≡ (quotes a && blocks t (comer (t .given) a) l)
 
 -- the block list afterwards, where it is known whether the maker is blocked by it
 abbrev pub blockedBy : Bool → Ask → List Bool → List Bool

@@ -6,7 +6,7 @@ use crate::asking::comer_of;
 use crate::refuse::refusal_of;
 use arrival::Terms;
 use arrival::arrive::arrive;
-use arrival::arrive::rejection_of;
+use arrival::arrive::guard_of;
 use arrival::cancel::cut_quote;
 use arrival::cancel::cut_rank;
 use arrival::post::market_of;
@@ -18,23 +18,28 @@ use packing::message::Unpacked;
 use packing::message::unpack;
 use packing::message::unpack_at;
 use packing::report::Report;
+use prices::Market;
+use prices::protect::is_above_strike;
+use prices::protect::is_above_underlying;
 use series::Series;
 use series::soundness::check_series;
 use settle::room::put;
 use settle::settle;
+use settle::watch::is_stirring;
 ghost use Prim.Native.Nat.{_≤_};
 ghost use mathlib.Core.Path.{_≡_};
-ghost use mathlib.Core.Bool.{_&&_};
 ghost use lib.ListN.{length};
 ghost use Rattle.packing.specs.declared.report.Report.the-variants.{Noted};
 ghost use Rattle.book.specs.Shape.{entriesOf};
+ghost use Rattle.settling.specs.Settle.{settled};
+ghost use Rattle.settle.specs.Turns.{Settleable};
 ghost use Rattle.settling.specs.Stage.{Roomy, Staged, andThen};
 ghost use Rattle.arrival.specs.Cancel.{cancelEntry, sweep, Asks};
-ghost use Rattle.arrival.specs.Arrive.{told, blocks};
-ghost use Rattle.handler.specs.Asked.{askOf, quotes};
+ghost use Rattle.arrival.specs.Arrive.{told};
+ghost use Rattle.handler.specs.Asked.{askOf};
 ghost use Rattle.handler.specs.Refuse.{refusalOf};
-ghost use Rattle.handler.specs.Accept.{comer, own, termsAfter, settledIf};
-ghost use Rattle.handler.specs.Acts.{Whole, Admits, Acts, SettlesIf, blockedBy, Marks};
+ghost use Rattle.handler.specs.Accept.{own, termsAfter, settledIf};
+ghost use Rattle.handler.specs.Acts.{Whole, Admits, Acts, SettlesIf, BlocksFor, blockedBy, Marks};
 ghost use Rattle.handler.specs.Handle.{firstOf, answered, accepted, judged, handled, handledAt};
 
 fn refused(series: Series, why: u32) -> Answer
@@ -119,30 +124,37 @@ fn act(s: Series, a: Ask, room: &mut [u8], n: &mut usize) -> Book
     b
 }
 
+// Settling, where there is anything to settle: mostly there is not.
+fn settle_open(b: Book, market: Market, room: &mut [u8], n: &mut usize) -> Book
+    requires { ⌜ Settleable market b (now room) (now n) ⌝ }
+    ensures { λ r. ⌜ Staged (settled market (entriesOf b)) (now (room .entry)) (now (n .entry)) r (now (room .exit)) (now (n .exit)) ⌝ }
+{
+    if is_stirring(b, market) {
+        return settle(b, market, room, n);
+    }
+    b
+}
+
 // Settling, in an open series.
 fn settle_if(t: Terms, b: Book, room: &mut [u8], n: &mut usize) -> Book
     requires { ⌜ SettlesIf t b (now room) (now n) ⌝ }
     ensures { λ r. ⌜ Staged (settledIf t (entriesOf b)) (now (room .entry)) (now (n .entry)) r (now (room .exit)) (now (n .exit)) ⌝ }
 {
     if t.phase == 1 {
-        return settle(b, market_of(t), room, n);
+        return settle_open(b, market_of(t), room, n);
     }
     b
 }
 
-// Whether it is a quote that is rejected for a reason that blocks its maker.
-fn is_blocking(s: Series, a: Ask) -> bool
-    requires { ⌜ Acts s a ⌝ }
-    ensures { λ r. ⌜ r ≡ (quotes a && blocks (s .terms) (comer (s .terms .given) a) (entriesOf (s .book))) ⌝ }
+// Whether it is a quote that is rejected for a reason that blocks its maker: 25 and 26 come before all others, and ask nothing of the book.
+fn is_blocking(t: Terms, a: Ask) -> bool
+    ensures { λ r. ⌜ BlocksFor r t a ⌝ }
 {
     if 4 < a.kind {
         return false;
     }
-    let b = s.book;
-    let t = s.terms;
-    let e = comer_of(t.given, a);
-    let why = rejection_of(b, t, e);
-    (why == 25) | (why == 26)
+    let guard = guard_of(t);
+    is_above_underlying(guard, a.sell, a.price) | is_above_strike(guard, a.sell, a.price)
 }
 
 // The series with its new numbers and book, and the maker blocked or freed.
@@ -172,7 +184,7 @@ fn accept(s: Series, a: Ask, room: &mut [u8]) -> Answer
     requires { ⌜ 31920 ≤ length (now room) ⌝ }
     ensures { λ r. ⌜ answered r (now (room .exit)) ≡ accepted s a (now (room .entry)) ⌝ }
 {
-    let blocking = is_blocking(s, a);
+    let blocking = is_blocking(s.terms, a);
     let mut n = 0usize;
     let b = act(s, a, room, &mut n);
     let t = terms_after(s.terms, a);

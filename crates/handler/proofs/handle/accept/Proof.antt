@@ -1,3 +1,4 @@
+use Rattle.book.specs.Shape.{entriesOf}
 use mathlib.Core.Path.{sym, ap, _∙_}
 use Rattle.handler.proofs.Stages.{then-sound}
 use Rattle.lists.proofs.Bools.{and-left}
@@ -10,7 +11,7 @@ use Rattle.handler.proofs.handle.accept.Statement.{statement}
 use Rattle.handler.proofs.handle.accept.Tie as tie
 
 is-blocking-requires : tie.Need-is-blocking-requires
-is-blocking-requires c κs = c .before .pre .0
+is-blocking-requires c κs = search needs
 
 act-requires : tie.Need-act-requires
 act-requires c κs = (c .before .before .before .before .pre .0, own-room (c .before .before .before .before .args .s) (c .before .before .before .before .args .a) (acts-accepted (c .before .before .before .before .pre .0)) _ (c .before .before .before .before .pre .1))
@@ -22,13 +23,13 @@ settle-if-requires : tie.Need-settle-if-requires
 settle-if-requires c κs = settles-next (c .before .before .before .before .before .before .before .before .before .before .args .s) (c .before .before .before .before .before .before .before .before .before .before .args .a) (c .before .before .before .before .before .before .before .before .before .before .pre .0) (c .before .before .before .before .before .before .before .before .before .before .pre .1) (c .before .before .before .before .before .act .ensures) _ (c .before .before .terms-after .ensures)
 
 put-together-requires : tie.Need-put-together-requires
-put-together-requires c κs = record { maker = λ q. and-left _ _ (sym (c .before .before .before .before .before .before .before .before .before .before .before .is-blocking .ensures) ∙ q); party = tests (c .before .before .before .before .before .before .before .before .before .before .before .before .before .args .s) (c .before .before .before .before .before .before .before .before .before .before .before .before .before .args .a) (acts-accepted (c .before .before .before .before .before .before .before .before .before .before .before .before .before .pre .0)) .party; blocks = c .before .before .before .before .before .before .before .before .before .before .before .before .before .pre .0 .whole .blocks }
+put-together-requires c κs = record { maker = λ q. and-left _ _ (sym (c .before .before .before .before .before .before .before .before .before .before .before .is-blocking .ensures (entriesOf (c .before .before .before .before .before .before .before .before .before .before .before .before .before .args .s .book))) ∙ q); party = tests (c .before .before .before .before .before .before .before .before .before .before .before .before .before .args .s) (c .before .before .before .before .before .before .before .before .before .before .before .before .before .args .a) (acts-accepted (c .before .before .before .before .before .before .before .before .before .before .before .before .before .pre .0)) .party; blocks = c .before .before .before .before .before .before .before .before .before .before .before .before .before .pre .0 .whole .blocks }
 
 same-length : tie.Need-same-length
 same-length c = search needs
 
 returns : tie.Need-returns
-returns c = accept-done (c .before .before .before .before .before .before .before .before .before .before .before .before .before .before .args .s) (c .before .before .before .before .before .before .before .before .before .before .before .before .before .before .args .a) (c .before .before .before .before .before .before .before .before .before .before .before .before .before .before .pre .0) (c .before .before .before .before .before .before .before .before .before .before .before .before .before .before .pre .1) (c .before .before .before .before .before .before .before .before .before .act .ensures) _ (c .before .before .before .before .before .before .terms-after .ensures) (c .before .before .before .settle-if .ensures) _ (c .before .before .before .before .before .before .before .before .before .before .before .before .is-blocking .ensures) _ (c .put-together .ensures)
+returns c = accept-done (c .before .before .before .before .before .before .before .before .before .before .before .before .before .before .args .s) (c .before .before .before .before .before .before .before .before .before .before .before .before .before .before .args .a) (c .before .before .before .before .before .before .before .before .before .before .before .before .before .before .pre .0) (c .before .before .before .before .before .before .before .before .before .before .before .before .before .before .pre .1) (c .before .before .before .before .before .before .before .before .before .act .ensures) _ (c .before .before .before .before .before .before .terms-after .ensures) (c .before .before .before .settle-if .ensures) _ (c .before .before .before .before .before .before .before .before .before .before .before .before .is-blocking .ensures (entriesOf (c .before .before .before .before .before .before .before .before .before .before .before .before .before .before .args .s .book))) _ (c .put-together .ensures)
 
 pub accept-spec : {M : Type 1} → statement M
 accept-spec =

@@ -1,0 +1,30 @@
+use mathlib.Core.Path.{sym, _∙_}
+use Rattle.settling.proofs.Quiet.{quiet}
+use Rattle.settling.proofs.Settles.{sound-for}
+use Rattle.settling.proofs.StageLaws.{staged-as, staged-none}
+use borrow.Author.Needs.{needs}
+use Rattle.handler.proofs.handle.settle_open.Statement.{statement}
+use Rattle.handler.proofs.handle.settle_open.Tie as tie
+
+is-stirring-requires : tie.Need-is-stirring-requires
+is-stirring-requires c κs = record { well = c .before .pre .well; sound = c .before .pre .sound }
+
+settle-requires : tie.Need-settle-requires
+settle-requires c κs = search needs
+
+same-length : tie.Need-same-length
+same-length c = search needs
+
+returns : tie.Need-returns
+returns c = search needs
+
+returns-2 : tie.Need-returns-2
+returns-2 c =
+    let a = c .before .before .before .args in
+    let p = c .before .before .before .pre in
+    let so = sound-for (p .sound) in
+    staged-as (sym (quiet (so .0) (so .1) (sym (c .before .is-stirring .ensures) ∙ c .if1 .left))) (staged-none (a .b) (a .room .now) (a .n .now) (p .well))
+
+pub settle-open-spec : {M : Type 1} → statement M
+settle-open-spec =
+    tie.close (tie.spec is-stirring-requires settle-requires same-length returns returns-2)
