@@ -30,7 +30,7 @@
  *
  * The archive: `rt staticlib server` proves it and writes target/staticlib/libserver.a, for x86-64 Linux;
  * `cc -o example c/example.c target/staticlib/libserver.a` links it. It allocates nothing, keeps nothing between calls, does no input or
- * output, and calls nothing but memcpy and the like; a call takes some 48 KB of stack. A state buffer can be copied and stored as bytes.
+ * output, and calls nothing but memcpy; on two lessons a call took about 45 KB of stack. A state buffer can be copied and stored as bytes.
  *
  * What no header can promise is the caller's to see to:
  *   - a length beside a pointer is the number of bytes that may be read (and, of state and room, written) from there; a wrong length is

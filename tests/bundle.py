@@ -13,10 +13,10 @@ project has written: see tests/README.md.
 
 import glob
 import os
-import sys
+
+from tables import keep
 
 HERE = os.path.dirname(os.path.abspath(__file__))
-CRATE = os.path.join(HERE, "..", "crates", "lessons")
 
 
 def part(data):
@@ -35,20 +35,5 @@ def bundled():
     return {"stdin": bytes(stdin), "stdout": bytes(stdout)}
 
 
-def main():
-    stale = []
-    for name, data in bundled().items():
-        path = os.path.join(CRATE, name)
-        if "--check" in sys.argv[1:]:
-            with open(path, "rb") as file:
-                if file.read() != data:
-                    stale.append(path)
-        else:
-            with open(path, "wb") as file:
-                file.write(data)
-    if stale:
-        sys.exit("not what tests/bundle.py writes: " + ", ".join(stale))
-
-
 if __name__ == "__main__":
-    main()
+    keep("lessons", bundled())

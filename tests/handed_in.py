@@ -9,9 +9,7 @@ sound. The states are sound and not settled, or unsound by each clause; rooms ar
 """
 
 import copy
-import os
 import random
-import sys
 from collections import Counter, defaultdict
 
 import series_vectors
@@ -22,8 +20,8 @@ from model import seen
 from packed import *
 from series_vectors import empty, full, orders
 from soundness_vectors import book_of, entry, random_book
+from tables import is_check, keep
 
-CRATE = os.path.join(os.path.dirname(os.path.abspath(__file__)), "..", "crates", "handed_in")
 GOOD = Message(UNDERLYING, price=20_011).pack()         # accepted by every sound state
 BAD = Message(UNDERLYING, price=20_011, party=1).pack()  # refused 1: a field that the kind does not use
 CASES = []
@@ -323,21 +321,6 @@ def table():
     return {"stdin": b"".join(case_bytes(*one) for one in CASES), "stdout": "".join(line + "\n" for line in lines).encode()}
 
 
-def main():
-    check, stale = "--check" in sys.argv[1:], []
-    for name, data in table().items():
-        path = os.path.join(CRATE, name)
-        if check:
-            with open(path, "rb") as file:
-                if file.read() != data:
-                    stale.append(path)
-        else:
-            with open(path, "wb") as file:
-                file.write(data)
-    if stale:
-        sys.exit("not what tests/handed_in.py writes: " + ", ".join(stale))
-    print("handed_in: %d cases %s" % (len(CASES), "are as written" if check else "written"))
-
-
 if __name__ == "__main__":
-    main()
+    keep("handed_in", table())
+    print("handed_in: %d cases %s" % (len(CASES), "are as written" if is_check() else "written"))
