@@ -2,17 +2,17 @@
 -- Assumes nothing.
 use Prim.Native.Nat.{ℕ, zero, suc, _≤_}
 use mathlib.Core.Path.{_≡_, refl, sym, ap, _∙_}
-use mathlib.Core.Bool.{Bool, true, false, cond, not, _&&_}
+use mathlib.Core.Bool.{Bool, true, false, cond, not, _&&_, _||_}
 use mathlib.Core.List.{List, [], _∷_}
 use native.Mathlib.Omega.{arith}
 use lib.Dec.{eqb}
 use borrow.Author.Tests.{eqb-true}
 use Rattle.prices.specs.declared.Market.{Market}
-use Rattle.prices.specs.declared.Guard.{Guard}
+use Rattle.prices.specs.declared.Prices.{Prices}
 use Rattle.prices.specs.Side.{away}
 use Rattle.prices.specs.Step.{mpv, given}
-use Rattle.prices.specs.Aims.{minds}
-use Rattle.prices.specs.Protect.{protection, Cents}
+use Rattle.prices.specs.Aims.{sliding, minds, aims, Bounds}
+use Rattle.prices.specs.Protect.{Cents}
 use Rattle.prices.proofs.StepLaws.{Given, given-is, given-none, given-legal, is-legal}
 use Rattle.lists.specs.Run.{Ran, still, leading, ran}
 use Rattle.lists.proofs.RunLaws.{run-stop, run-go}
@@ -24,7 +24,7 @@ use Rattle.book.specs.declared.Book.{Book}
 use Rattle.book.specs.declared.Pricing.{Pricing}
 use Rattle.book.specs.declared.Pricing.the-variants.{Fixed, Dark, Sliding}
 use Rattle.book.specs.Entries.{quote, display, shownAs}
-use Rattle.book.specs.Look.{national}
+use Rattle.book.specs.Look.{contra, national}
 use Rattle.book.specs.Shape.{entriesOf, bookOf, WellFormed, Space}
 use Rattle.book.specs.Change.{post}
 use Rattle.book.proofs.ShapeLaws.{book-of-entries, fits-64}
@@ -36,36 +36,52 @@ use Rattle.settling.specs.Stage.{soundMarket, Roomy, Staged, andThen}
 use Rattle.settling.proofs.EaseRule.{MarketFacts, market-facts}
 use Rattle.settling.proofs.Settles.{sound-for}
 use Rattle.arrival.specs.declared.Terms.{Terms}
+use Rattle.arrival.specs.declared.Facing.{Facing}
 use Rattle.arrival.specs.declared.take.Trade.{Trade}
-use Rattle.arrival.specs.Terms.{marketOf, guardOf}
+use Rattle.arrival.specs.Terms.{marketOf}
 use Rattle.arrival.specs.Cancel.{Asks, cutQuote}
 use Rattle.settling.specs.Stage.{Put}
-use Rattle.arrival.specs.Take.{Taking, bound, nextTake, chances, taken, took}
-use Rattle.arrival.specs.Post.{pricesOf, resting, stopFor, Posts}
-use Rattle.arrival.specs.Arrive.{told, ofQuotes, bothQuotes, rejectedBy, posted, remainder, cancelledRest, finished, entered, noneTraded, stopsAtOnce, protectionFor, orElse, rejection, arrivedAs, arrived}
-use Rattle.arrival.specs.Asks.{Arriving, Enters, tradeAs, NextTrade, Rests, Finishes}
+use Rattle.arrival.specs.Take.{Taking, bound, offered, nextTake, chances, taken, took}
+use Rattle.arrival.specs.Post.{pricesBefore, pricesOf, resting, stopFor, Posts}
+use Rattle.arrival.specs.Arrive.{told, ofQuotes, bothQuotes, rejectedBy, posted, remainder, cancelledRest, finished, entered, noneTraded, stopsAtOnce, protectionBefore, protectionFor, orElse, rejection, arrivedAs, arrived}
+use Rattle.arrival.specs.Asks.{trades, Arriving, Enters, tradeAs, NextTrade, Rests, Finishes}
 use Rattle.settling.proofs.StageLaws.{roomy-first, staged-then, staged-room, staged-none, staged-as, staged-go, roomy-as}
-use Rattle.arrival.proofs.TakeLaws.{take-falls}
+use Rattle.arrival.proofs.TakeLaws.{take-falls, takes-now}
+use Rattle.arrival.proofs.Untraded.{far-off}
+use Rattle.arrival.proofs.PostingLaws.{unminded}
 
 -- ---- the prices of a sound book before a sound market ----
 
-pub posts-of : {top : ℕ} (t : Terms) (e : Entry) (b : Book) → soundMarket (marketOf t) ≡ true → t .k ≤ 100 → WellFormed b → Sound (t .m) top (entriesOf b) → Posts t e b
-unfolding soundMarket
-posts-of t e b market steps w so = record {
-  well = w;
-  steps = steps;
-  bounds = record {
-    step = and-left (mpv (t .m)) (given (t .m) (t .bid) && given (t .m) (t .offer)) market;
-    away = given-is (market-facts (marketOf t) market .given (e .sell));
-    contra = given-is (given-contra (e .sell) so);
-  };
-}
-
-facts-of : {t : Terms} {e : Entry} {l : List Entry} → Arriving t e l → MarketFacts (marketOf t) × Sound (t .m) (t .given) l
+pub facts-of : {t : Terms} {e : Entry} {l : List Entry} → Arriving t e l → MarketFacts (marketOf t) × Sound (t .m) (t .given) l
 facts-of {t} a = sound-for (record { top = t .given; market = a .market; entries = a .entries })
 
-pub enters-posts : {t : Terms} {e : Entry} {b : Book} → Enters t e b → Posts t e b
-enters-posts {t} {e} {b} n = posts-of t e b (n .arriving .market) (n .arriving .steps) (n .well) (facts-of (n .arriving) .1)
+-- the contra price that was seen, and the away price, are none or legal
+enters-bounds : {t : Terms} {e : Entry} {f : Facing} {b : Book} → Enters t e f b → Bounds (t .m) (away (marketOf t) (e .sell)) (f .contra)
+unfolding soundMarket
+enters-bounds {t} {e} {f} {b} n = record {
+  step = and-left (mpv (t .m)) (given (t .m) (t .bid) && given (t .m) (t .offer)) (n .arriving .market);
+  away = given-is (market-facts (marketOf t) (n .arriving .market) .given (e .sell));
+  contra = rw (n .faces .contra) (given-is (given-contra (e .sell) (facts-of (n .arriving) .1)));
+}
+
+-- so it may be put to a book in which C is the same for a kind that minds it
+pub posts-of : {t : Terms} {e : Entry} {f : Facing} {b : Book} → Enters t e f b → (d : Book) → WellFormed d
+    → (minds (e .kind) ≡ true → f .contra ≡ contra (e .sell) (entriesOf d)) → Posts t e d (f .contra)
+posts-of n d w known = record { well = w; steps = n .arriving .steps; bounds = enters-bounds n; known = known }
+
+pub enters-posts : {t : Terms} {e : Entry} {f : Facing} {b : Book} → Enters t e f b → Posts t e b (f .contra)
+enters-posts {b = b} n = posts-of n b (n .well) (λ _. n .faces .contra)
+
+-- and then the prices are those before the C of that book
+pub prices-known : {t : Terms} {e : Entry} {b : Book} {c : ℕ} → Posts t e b c → pricesBefore t e c ≡ pricesOf t e (entriesOf b)
+prices-known {t} {e} {b} {c} p = ap (λ (x : Prices). cond (sliding (e .kind)) x (record { display = e .limit; working = e .limit })) (go (minds (e .kind)) refl)
+  where
+    to : ℕ → Prices
+    to x = aims (t .m) (e .kind) (e .sell) (e .limit) (away (marketOf t) (e .sell)) x
+
+    go : (z : Bool) → minds (e .kind) ≡ z → to c ≡ to (contra (e .sell) (entriesOf b))
+    go true q = ap to (p .known q)
+    go false q = unminded (t .m) (e .kind) (e .sell) (e .limit) (away (marketOf t) (e .sell)) c (contra (e .sell) (entriesOf b)) q
 
 pub given-high : {m p : ℕ} → Given m p → p ≤ 100000
 given-high {m} {p} g = pick (eqb p 0) refl
@@ -84,32 +100,26 @@ given-display {m} x f = pick (x .pricing) (f .prices)
 
 -- ---- price protection ----
 
-module _ {t : Terms} {e : Entry} {b : Book} (n : Enters t e b) where
-  pub national-cents : (k : Market) (a best : ℕ) → k ≡ marketOf t → a ≡ away k (e .sell) → best ≡ national (e .sell) a (entriesOf b) → Cents best (e .limit)
-  national-cents k a best p q r =
-      let f = facts-of (n .arriving) in
-      let g : Given (t .m) (national (e .sell) (away (marketOf t) (e .sell)) (entriesOf b)) =
-      given-nearest display (e .sell) (away (marketOf t) (e .sell)) (entriesOf b) (f .0 .given (e .sell)) (all-map (λ x h. given-display x h) (entriesOf b) (f .1 .entries)) in
-      record { best = rw (r, q, p) (given-high g); limit = is-legal (t .m) (e .limit) (n .arriving .limit) .high }
+pub national-cents : {t : Terms} {e : Entry} {f : Facing} {b : Book} → Enters t e f b → Cents (f .national) (e .limit)
+national-cents {t} {e} {f} {b} n =
+    let k = facts-of (n .arriving) in
+    let g : Given (t .m) (national (e .sell) (away (marketOf t) (e .sell)) (entriesOf b)) =
+    given-nearest display (e .sell) (away (marketOf t) (e .sell)) (entriesOf b) (k .0 .given (e .sell)) (all-map (λ x h. given-display x h) (entriesOf b) (k .1 .entries)) in
+    record { best = rw (n .faces .national) (given-high g); limit = is-legal (t .m) (e .limit) (n .arriving .limit) .high }
+
+pub protected-by : {t : Terms} {e : Entry} {f : Facing} {b : Book} → Enters t e f b → protectionBefore t e (f .national) ≡ protectionFor t e (entriesOf b)
+unfolding protectionFor
+protected-by {t} {e} n = ap (protectionBefore t e) (n .faces .national)
 
 module _ (t : Terms) (e : Entry) (l : List Entry) where
-  pub protected-order : quote e ≡ false → 0 ≡ protectionFor t e l
-  unfolding protectionFor
-  protected-order q = rw q
-
-  pub protected-quote : (k : Market) (a best : ℕ) (g : Guard) (r : ℕ) → quote e ≡ true → k ≡ marketOf t → a ≡ away k (e .sell) → best ≡ national (e .sell) a l
-      → g ≡ guardOf t → r ≡ protection g (e .sell) best (e .limit) → r ≡ protectionFor t e l
-  unfolding protectionFor
-  protected-quote k a best g r w p q s u v = v ∙ rw (u, s, q, p, w) refl
-
   -- ---- whether it trades ----
 
-  pub trades-none : minds (e .kind) ≡ true → false ≡ not (noneTraded (took (marketOf t) e l .records))
+  pub trades-none : minds (e .kind) ≡ true → false ≡ trades t e l
   unfolding took still
   trades-none q = rw q refl
 
   pub trades-now : (k : Market) (cap : ℕ) (r : Trade) → minds (e .kind) ≡ false → k ≡ marketOf t → cap ≡ bound k e
-      → NextTrade cap e (record { left = e .quantity; book = l }) r → r .going ≡ not (noneTraded (took (marketOf t) e l .records))
+      → NextTrade cap e (record { left = e .quantity; book = l }) r → r .going ≡ trades t e l
   unfolding took taken still leading
   trades-now k cap r q p w x = rw (q, ← p, ← w) (pick (r .going) (x .is))
     where
@@ -121,6 +131,19 @@ module _ (t : Terms) (e : Entry) (l : List Entry) where
       pick true h =
           ap (λ (y : Ran Taking Report). not (noneTraded (y .records)))
           (sym (run-go (nextTake cap e) chances (λ _. Unit {0}) (take-falls cap e) from (traded e (r .entry) (r .quantity)) _ tt h))
+
+  -- C is out of reach, and so is everyone
+  pub trades-far : {m top : ℕ} → Sound m top l → (k : Market) (cap : ℕ) → k ≡ marketOf t → cap ≡ bound k e → offered (e .sell) cap (contra (e .sell) l) ≡ false
+      → false ≡ trades t e l
+  trades-far so k cap p w h =
+      sym (ap not (takes-now (marketOf t) e l
+      ∙ ap (λ (b : Bool). minds (e .kind) || (eqb (e .quantity) 0 || not b)) (far-off e l so (bound (marketOf t) e) (sym (ap (λ (c : ℕ). offered (e .sell) c (contra (e .sell) l)) (w ∙ ap (λ (x : Market). bound x e) p)) ∙ h))
+      ∙ all-true (minds (e .kind)) (eqb (e .quantity) 0)))
+    where
+      all-true : (a b : Bool) → (a || (b || true)) ≡ true
+      all-true true b = refl
+      all-true false true = refl
+      all-true false false = refl
 
   pub once-order : quote e ≡ false → 0 ≡ stopsAtOnce t e l
   unfolding stopsAtOnce
@@ -237,13 +260,16 @@ of-order e f l q = rw q refl
 
 -- ---- what is left rests ----
 
-module _ {t : Terms} {e : Entry} {b : Book} {left : ℕ} {room : List ℕ} {n : ℕ} (a : Rests t e b left room n) (x : Entry) (s : Report)
-    (is : x ≡ resting e left (pricesOf t e (entriesOf b))) (tells : s ≡ rested x) where
+module _ {t : Terms} {e : Entry} {c : ℕ} {b : Book} {left : ℕ} {room : List ℕ} {n : ℕ} (a : Rests t e c b left room n) (x : Entry) (s : Report)
+    (made : x ≡ resting e left (pricesBefore t e c)) (tells : s ≡ rested x) where
+  is : x ≡ resting e left (pricesOf t e (entriesOf b))
+  is = made ∙ ap (resting e left) (prices-known (a .posts))
+
   pub rest-room : Roomy room n (s ∷ [])
   rest-room = rw (tells, is) (a .roomy)
 
-  pub rest-done : {room′ : List ℕ} {n′ : ℕ} {c : Book} → Put room n s room′ n′ → c ≡ bookOf (post x (entriesOf b))
-      → Staged (posted t e left (entriesOf b)) room n c room′ n′
+  pub rest-done : {room′ : List ℕ} {n′ : ℕ} {after : Book} → Put room n s room′ n′ → after ≡ bookOf (post x (entriesOf b))
+      → Staged (posted t e left (entriesOf b)) room n after room′ n′
   rest-done p q =
       let free : Space b = record { well = a .posts .well; space = a .space } in
       staged-go (entriesOf b) (post (resting e left (pricesOf t e (entriesOf b))) (entriesOf b)) (tells ∙ ap rested is) p
@@ -299,7 +325,7 @@ module _ (t : Terms) (e : Entry) where
   finished-cancels (suc left) zero l n q = absurd (q refl)
   finished-cancels (suc left) (suc why) l n q = refl
 
-module _ {t : Terms} {e : Entry} {b : Book} {left : ℕ} {room : List ℕ} {n : ℕ} (a : Finishes t e b left room n) where
+module _ {t : Terms} {e : Entry} {c : ℕ} {b : Book} {left : ℕ} {room : List ℕ} {n : ℕ} (a : Finishes t e c b left room n) where
   pub finish-none : left ≡ 0 → Staged (finished t e left (stopFor t e (entriesOf b)) (entriesOf b)) room n b room n
   finish-none q = staged-as (finished-none t e left (stopFor t e (entriesOf b)) (entriesOf b) q) (staged-none b room n (a .posts .well))
 
@@ -307,15 +333,15 @@ module _ {t : Terms} {e : Entry} {b : Book} {left : ℕ} {room : List ℕ} {n : 
     same-end : finished t e left why (entriesOf b) ≡ finished t e left (stopFor t e (entriesOf b)) (entriesOf b)
     same-end = ap (λ (w : ℕ). finished t e left w (entriesOf b)) is
 
-    pub finish-rests : why ≡ 0 → Rests t e b left room n
+    pub finish-rests : why ≡ 0 → Rests t e c b left room n
     finish-rests z = record {
       posts = a .posts;
       space = a .space;
       roomy = roomy-as (ap (λ (x : Ran (List Entry) Report). x .records) (sym (finished-posts t e left why (entriesOf b) some z ∙ same-end))) (a .roomy);
     }
 
-    pub finish-posted : {c : Book} {room′ : List ℕ} {n′ : ℕ} → why ≡ 0 → Staged (posted t e left (entriesOf b)) room n c room′ n′
-        → Staged (finished t e left (stopFor t e (entriesOf b)) (entriesOf b)) room n c room′ n′
+    pub finish-posted : {d : Book} {room′ : List ℕ} {n′ : ℕ} → why ≡ 0 → Staged (posted t e left (entriesOf b)) room n d room′ n′
+        → Staged (finished t e left (stopFor t e (entriesOf b)) (entriesOf b)) room n d room′ n′
     finish-posted z x = staged-as (finished-posts t e left why (entriesOf b) some z ∙ same-end) x
 
     pub finish-cancels : (why ≡ 0 → ⊥) → Asks (cancelledRest why e left (entriesOf b)) b room n
@@ -324,6 +350,6 @@ module _ {t : Terms} {e : Entry} {b : Book} {left : ℕ} {room : List ℕ} {n : 
       roomy = roomy-as (ap (λ (x : Ran (List Entry) Report). x .records) (sym (finished-cancels t e left why (entriesOf b) some z ∙ same-end))) (a .roomy);
     }
 
-    pub finish-cancelled : {c : Book} {room′ : List ℕ} {n′ : ℕ} → (why ≡ 0 → ⊥) → Staged (cancelledRest why e left (entriesOf b)) room n c room′ n′
-        → Staged (finished t e left (stopFor t e (entriesOf b)) (entriesOf b)) room n c room′ n′
+    pub finish-cancelled : {d : Book} {room′ : List ℕ} {n′ : ℕ} → (why ≡ 0 → ⊥) → Staged (cancelledRest why e left (entriesOf b)) room n d room′ n′
+        → Staged (finished t e left (stopFor t e (entriesOf b)) (entriesOf b)) room n d room′ n′
     finish-cancelled z x = staged-as (finished-cancels t e left why (entriesOf b) some z ∙ same-end) x

@@ -3,6 +3,7 @@ pub mod TradeLaws
 pub mod PostingLaws
 pub mod ReasonLaws
 pub mod TakeLaws
+pub mod Untraded
 pub mod CutLaws
 pub mod SweepLaws
 pub mod PostLaws

@@ -14,8 +14,8 @@ use Rattle.prices.proofs.FrameLaws.{seen-inj}
 use Rattle.lists.specs.Places.{At, without}
 use Rattle.lists.specs.Tests.{any}
 use Rattle.lists.specs.Choose.{scan, Found, nowhere, found}
-use Rattle.lists.specs.Run.{Complete, done, then, Ran, still}
-use Rattle.lists.proofs.Bools.{clash, and-left}
+use Rattle.lists.specs.Run.{Ran, still}
+use Rattle.lists.proofs.Bools.{clash, and-left, cond-either}
 use Rattle.lists.proofs.PlaceLaws.{at-same}
 use Rattle.lists.proofs.ChooseLaws.{Tells}
 use Rattle.packing.specs.declared.report.Report.{Report}
@@ -29,10 +29,12 @@ use Rattle.sound.proofs.KeepLaws.{here-facts}
 use Rattle.arrival.specs.declared.Terms.{Terms}
 use Rattle.arrival.specs.Terms.{marketOf}
 use Rattle.arrival.specs.Cancel.{cut, cutQuote}
-use Rattle.arrival.specs.Take.{Taking, bound, shownOnly, nextTake, took}
+use Rattle.arrival.specs.Take.{Taking, bound, shownOnly, took}
 use Rattle.arrival.specs.Post.{stopFor}
 use Rattle.arrival.specs.Arrive.{replaced, noneTraded, stopsAtOnce, protectionFor, orElse, rejection}
-use Rattle.arrival.proofs.TakeLaws.{withinBound, take-run, took-either, takes-now}
+use Rattle.arrival.specs.Asks.{trades}
+use Rattle.arrival.proofs.TakeLaws.{withinBound, takes-now}
+use Rattle.arrival.proofs.Untraded.{none-took}
 use Rattle.arrival.proofs.CutLaws.{of-maker}
 use Rattle.arrival.proofs.Leaves.{Rests, rests-without, rests-back}
 
@@ -163,22 +165,28 @@ module _ {m top : ℕ} (t : Terms) (e : Entry) (l : List Entry) (so : Sound m to
   unfolding rejection stopsAtOnce
   same-rejection = rw (same-protection, same-none-traded, same-stop) refl
 
--- ---- where nothing was traded, the book is as it was ----
+-- an order replaces nothing, so that for quotes and orders alike
+module _ {m top : ℕ} (t : Terms) (e : Entry) (l : List Entry) (so : Sound m top l) where
+  either-way : {A : Type 0} (f : List Entry → A) → (quote e ≡ true → f (replaced e l .final) ≡ f l) → f (replaced e l .final) ≡ f l
+  unfolding still
+  either-way f g = cond-either (λ (x : Ran (List Entry) Report). f (x .final) ≡ f l) (quote e) (cutQuote 27 (e .party) (e .sell) l) (still l)
+      (λ q. sym (ap (λ (x : Ran (List Entry) Report). f (x .final)) (of-quote q)) ∙ g q) (λ q. refl)
+    where
+      of-quote : quote e ≡ true → replaced e l ≡ cutQuote 27 (e .party) (e .sell) l
+      of-quote q = rw q refl
 
-none-done : (cap : ℕ) (e : Entry) {s u : Taking} {rs : List Report} → Complete (nextTake cap e) s rs u → noneTraded rs ≡ true → u ≡ s
-none-done cap e (done g) h = refl
-none-done cap e (then g c) h = clash h refl
+  -- C is what it was once the replaced quote has gone,
+  pub still-contra : contra (e .sell) (replaced e l .final) ≡ contra (e .sell) l
+  still-contra = either-way (contra (e .sell)) (λ q. same-contra t e l so q)
 
-pub none-took : (k : Market) (e : Entry) (l : List Entry) → noneTraded (took k e l .records) ≡ true → took k e l .final .book ≡ l
-unfolding still
-none-took k e l =
-    took-either k e l (λ (x : Ran Taking Report). noneTraded (x .records) ≡ true → x .final .book ≡ l) (λ _ h. refl)
-    (λ _ h. ap (λ (u : Taking). u .book) (none-done (bound k e) e (take-run (bound k e) e (record { left = e .quantity; book = l })) h))
+  -- and it trades if it would have
+  pub still-trades : trades t e (replaced e l .final) ≡ trades t e l
+  still-trades = either-way (trades t e) (λ q. ap not (same-none-traded t e l so q))
 
 -- A QUOTE WHOSE REST IS STOPPED, AND WHICH IS NOT REJECTED, HAS TRADED
 pub stopped-traded : {m top : ℕ} (t : Terms) (e : Entry) (l : List Entry) → Sound m top l → quote e ≡ true → rejection t e l ≡ 0
     → 1 ≤ stopFor t e (took (marketOf t) e (replaced e l .final) .final .book) → noneTraded (took (marketOf t) e (replaced e l .final) .records) ≡ false
-unfolding rejection stopsAtOnce
+unfolding rejection stopsAtOnce still
 stopped-traded t e l so q h why = go (noneTraded (took (marketOf t) e (replaced e l .final) .records)) refl
   where
     passed : (n k : ℕ) → orElse n k ≡ 0 → k ≡ 0
@@ -192,5 +200,5 @@ stopped-traded t e l so q h why = go (noneTraded (took (marketOf t) e (replaced 
         let n : noneTraded (took (marketOf t) e l .records) ≡ true = sym (same-none-traded t e l so q) ∙ g in
         let w : stopFor t e l ≡ 0 = rw (q, n) at z in
         let y : stopFor t e (took (marketOf t) e (replaced e l .final) .final .book) ≡ 0 =
-        ap (stopFor t e) (none-took (marketOf t) e (replaced e l .final) g) ∙ same-stop t e l so q ∙ w in
+        ap (λ (x : Ran Taking Report). stopFor t e (x .final .book)) (none-took (marketOf t) e (replaced e l .final) g) ∙ same-stop t e l so q ∙ w in
         absurd (omega arith)

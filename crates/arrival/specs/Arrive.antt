@@ -96,9 +96,12 @@ stopsAtOnce t e l = cond (quote e && noneTraded (took (marketOf t) e l .records)
 
 -- ---- "Price protection comes first, for quotes only" ----
 
+abbrev pub protectionBefore : Terms → Entry → ℕ → ℕ
+protectionBefore t e best = cond (quote e) (protection (guardOf t) (e .sell) best (e .limit)) 0
+
+-- before the NBO or NBB that stands against it
 unfoldable pub protectionFor : Terms → Entry → List Entry → ℕ
-protectionFor t e l =
-    cond (quote e) (protection (guardOf t) (e .sell) (national (e .sell) (away (marketOf t) (e .sell)) l) (e .limit)) 0
+protectionFor t e l = protectionBefore t e (national (e .sell) (away (marketOf t) (e .sell)) l)
 
 -- why an arrival is rejected; 0 where it is not
 abbrev pub orElse : ℕ → ℕ → ℕ

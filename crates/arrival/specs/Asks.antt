@@ -2,10 +2,11 @@
 -- Assumes nothing.
 use Prim.Native.Nat.{ℕ, _+_, _-_, _≤_, _<_}
 use mathlib.Core.Path.{_≡_}
-use mathlib.Core.Bool.{Bool, true, false}
+use mathlib.Core.Bool.{Bool, true, false, not}
 use mathlib.Core.List.{List}
 use lib.ListN.{length}
 use Rattle.prices.specs.Step.{legal}
+use Rattle.prices.specs.Side.{away}
 use Rattle.lists.specs.Run.{Step, stop, go, Ran}
 use Rattle.settling.specs.Tell.{traded}
 use Rattle.book.specs.Change.{hit}
@@ -15,6 +16,7 @@ use Rattle.book.specs.declared.Entry.{Entry}
 use Rattle.book.specs.declared.Book.{Book}
 use Rattle.book.specs.Shape.{entriesOf, bookOf, WellFormed}
 use Rattle.book.specs.Entries.{quote}
+use Rattle.book.specs.Look.{contra, national}
 use Rattle.sound.specs.Sound.{soundEntries}
 use Rattle.settling.specs.Stage.{soundMarket, Roomy}
 use Rattle.arrival.specs.declared.Terms.{Terms}
@@ -22,7 +24,8 @@ use Rattle.arrival.specs.Terms.{marketOf}
 use Rattle.arrival.specs.Take.{Taking, nextTake, took}
 use Rattle.arrival.specs.Post.{stopFor, Posts}
 use Rattle.arrival.specs.declared.take.Trade.{Trade}
-use Rattle.arrival.specs.Arrive.{replaced, posted, finished}
+use Rattle.arrival.specs.declared.Facing.{Facing}
+use Rattle.arrival.specs.Arrive.{replaced, posted, finished, noneTraded, entered, arrived}
 
 pub record Arriving (t : Terms) (e : Entry) (l : List Entry) : Type 0 where
   pub market : soundMarket (marketOf t) ≡ true
@@ -71,26 +74,47 @@ pub record NextTrade (cap : ℕ) (e : Entry) (t : Taking) (r : Trade) : Type 0 w
 
 -- ---- an arrival, in its parts ----
 
-pub record Enters (t : Terms) (e : Entry) (b : Book) : Type 0 where
+-- whether it trades anything
+abbrev pub trades : Terms → Entry → List Entry → Bool
+trades t e l = not (noneTraded (took (marketOf t) e l .records))
+
+-- what has been seen of the entries against it
+pub record Faces (t : Terms) (e : Entry) (l : List Entry) (f : Facing) : Type 0 where
+  pub contra : f .contra ≡ contra (e .sell) l
+  pub national : f .national ≡ national (e .sell) (away (marketOf t) (e .sell)) l
+
+pub record Enters (t : Terms) (e : Entry) (f : Facing) (b : Book) : Type 0 where
   pub well : WellFormed b
   pub arriving : Arriving t e (entriesOf b)
+  pub faces : Faces t e (entriesOf b) f
 
--- an arrival, or what is left of it, with room for the reports of x
-pub record Arrives (x : Ran (List Entry) Report) (t : Terms) (e : Entry) (b : Book) (room : List ℕ) (n : ℕ) : Type 0 where
-  pub enters : Enters t e b
-  pub roomy : Roomy room n (x .records)
+-- and whether it would trade
+pub record Decides (t : Terms) (e : Entry) (f : Facing) (trading : Bool) (b : Book) : Type 0 where
+  pub enters : Enters t e f b
+  pub trades : trading ≡ trades t e (entriesOf b)
 
-pub record TakesOn (t : Terms) (e : Entry) (b : Book) (left : ℕ) (room : List ℕ) (n : ℕ) : Type 0 where
+-- an arrival, with room for its reports
+pub record Arrives (t : Terms) (e : Entry) (f : Facing) (b : Book) (room : List ℕ) (n : ℕ) : Type 0 where
+  pub enters : Enters t e f b
+  pub roomy : Roomy room n (arrived t e (entriesOf b) .records)
+
+-- one that is not rejected
+pub record Goes (t : Terms) (e : Entry) (f : Facing) (trading : Bool) (b : Book) (room : List ℕ) (n : ℕ) : Type 0 where
+  pub decides : Decides t e f trading b
+  pub roomy : Roomy room n (entered t e (entriesOf b) .records)
+
+pub record TakesOn (t : Terms) (e : Entry) (trading : Bool) (b : Book) (left : ℕ) (room : List ℕ) (n : ℕ) : Type 0 where
   pub well : WellFormed b
   pub whole : left ≡ e .quantity
+  pub trades : trading ≡ trades t e (entriesOf b)
   pub roomy : Roomy room n (took (marketOf t) e (entriesOf b) .records)
 
-pub record Rests (t : Terms) (e : Entry) (b : Book) (left : ℕ) (room : List ℕ) (n : ℕ) : Type 0 where
-  pub posts : Posts t e b
+pub record Rests (t : Terms) (e : Entry) (c : ℕ) (b : Book) (left : ℕ) (room : List ℕ) (n : ℕ) : Type 0 where
+  pub posts : Posts t e b c
   pub space : b .count < 64
   pub roomy : Roomy room n (posted t e left (entriesOf b) .records)
 
-pub record Finishes (t : Terms) (e : Entry) (b : Book) (left : ℕ) (room : List ℕ) (n : ℕ) : Type 0 where
-  pub posts : Posts t e b
+pub record Finishes (t : Terms) (e : Entry) (c : ℕ) (b : Book) (left : ℕ) (room : List ℕ) (n : ℕ) : Type 0 where
+  pub posts : Posts t e b c
   pub space : b .count < 64
   pub roomy : Roomy room n (finished t e left (stopFor t e (entriesOf b)) (entriesOf b) .records)

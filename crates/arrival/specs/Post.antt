@@ -1,12 +1,13 @@
 -- "What is left posts, unless, first that applies: 20, .. 21, .. 23, .. 22".
 -- Assumes nothing.
 use Prim.Native.Nat.{ℕ, _≤_}
+use mathlib.Core.Path.{_≡_}
 use mathlib.Core.Bool.{Bool, true, false, cond, _&&_}
 use mathlib.Core.List.{List}
 use lib.Dec.{eqb}
 use Rattle.prices.specs.declared.Prices.{Prices}
 use Rattle.prices.specs.Side.{away}
-use Rattle.prices.specs.Aims.{sliding, aims, Bounds}
+use Rattle.prices.specs.Aims.{sliding, minds, aims, Bounds}
 use Rattle.prices.specs.Post.{stopped}
 use Rattle.book.specs.declared.Entry.{Entry}
 use Rattle.book.specs.declared.Pricing.{Pricing}
@@ -18,11 +19,13 @@ use Rattle.arrival.specs.declared.Terms.{Terms}
 use Rattle.arrival.specs.Terms.{marketOf}
 
 -- "On arrival it takes the aims"; what does not slide displays (or not) and works at the limit
+abbrev pub pricesBefore : Terms → Entry → ℕ → Prices
+pricesBefore t e c =
+    cond (sliding (e .kind)) (aims (t .m) (e .kind) (e .sell) (e .limit) (away (marketOf t) (e .sell)) c) (record { display = e .limit; working = e .limit })
+
+-- before the C of the book
 abbrev pub pricesOf : Terms → Entry → List Entry → Prices
-pricesOf t e l =
-    cond (sliding (e .kind))
-    (aims (t .m) (e .kind) (e .sell) (e .limit) (away (marketOf t) (e .sell)) (contra (e .sell) l))
-    (record { display = e .limit; working = e .limit })
+pricesOf t e l = pricesBefore t e (contra (e .sell) l)
 
 abbrev pub pricingOf : ℕ → ℕ → Pricing
 pricingOf kind display = cond (sliding kind) (Sliding display) (cond (eqb kind 6) Dark Fixed)
@@ -49,8 +52,10 @@ unfoldable pub stopFor : Terms → Entry → List Entry → ℕ
 stopFor t e l =
     stopped (t .m) (t .k) (e .kind) (e .sell) (e .limit) (away (marketOf t) (e .sell)) (bars21 e l) (pricesOf t e l .display)
 
--- what the functions ask of their callers: a well-formed book, K as setup allows it, an M that is listed, and an away and a contra price that are none or legal
-pub record Posts (t : Terms) (e : Entry) (b : Book) : Type 0 where
+-- what the functions ask of their callers: a well-formed book, K as setup allows it, an M that is listed, and an away price and a contra price c that are none or
+-- legal; c is the C of the book for a kind that minds it, and any other kind may have traded since c was seen
+pub record Posts (t : Terms) (e : Entry) (b : Book) (c : ℕ) : Type 0 where
   pub well : WellFormed b
   pub steps : t .k ≤ 100
-  pub bounds : Bounds (t .m) (away (marketOf t) (e .sell)) (contra (e .sell) (entriesOf b))
+  pub bounds : Bounds (t .m) (away (marketOf t) (e .sell)) c
+  pub known : minds (e .kind) ≡ true → c ≡ contra (e .sell) (entriesOf b)

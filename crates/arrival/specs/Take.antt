@@ -30,6 +30,10 @@ bound k e = upTo (e .sell) (away k (e .sell)) (e .limit)
 abbrev pub shownOnly : Entry → Bool
 shownOnly e = eqb (e .kind) 2
 
+-- a price, 0 for none, and within a bound
+abbrev pub offered : Bool → ℕ → ℕ → Bool
+offered s cap p = not (eqb p 0) && reaches s cap p
+
 -- one trade, with the best contra entry if the bound reaches it
 abbrev pub tradeWith : Entry → Taking → ℕ → Entry → Bool → Step Taking Report
 tradeWith e t j y false = stop

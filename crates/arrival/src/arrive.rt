@@ -1,4 +1,5 @@
 // Arrival of a quote or an order.
+use crate::Facing;
 use crate::Terms;
 use crate::cancel::cut_quote;
 use crate::cancel::cut_rank;
@@ -7,6 +8,7 @@ use crate::post::prices_of;
 use crate::post::rest_of;
 use crate::post::stop_for;
 use crate::take::bound_of;
+use crate::take::is_offered;
 use crate::take::next_trade;
 use crate::take::take_all;
 use book::Book;
@@ -16,26 +18,25 @@ use book::change::posted as post_entry;
 use book::entries::is_quote;
 use book::entries::kind_of;
 use book::find::find_quote;
-use book::look::national_price;
 use prices::Guard;
 use prices::aims::is_minding;
 use prices::protect::protection_of;
-use prices::side::away_of;
 use settle::room::put;
 use settle::tell::tell_cancelled;
 use settle::tell::tell_rejected;
 use settle::tell::tell_rested;
 ghost use mathlib.Core.Path.{_≡_};
 ghost use mathlib.Core.Bool.{not};
+ghost use Rattle.prices.specs.Protect.{Cents};
 ghost use Rattle.book.specs.Shape.{entriesOf, WellFormed};
 ghost use Rattle.book.specs.Look.{rankOf, quoteIn};
 ghost use Rattle.settling.specs.Stage.{Staged};
 ghost use Rattle.arrival.specs.Terms.{guardOf, marketOf};
 ghost use Rattle.arrival.specs.Take.{took};
 ghost use Rattle.arrival.specs.Post.{stopFor};
-ghost use Rattle.arrival.specs.Arrive.{noneTraded, protectionFor, stopsAtOnce, rejection, rejectedBy, replaced, posted, remainder, cancelledRest, finished, entered, arrived};
+ghost use Rattle.arrival.specs.Arrive.{protectionBefore, stopsAtOnce, rejection, rejectedBy, replaced, posted, remainder, cancelledRest, finished, entered, arrived};
 ghost use Rattle.arrival.specs.Cancel.{Asks};
-ghost use Rattle.arrival.specs.Asks.{Enters, Finishes, Rests, TakesOn, TookAs, Arrives};
+ghost use Rattle.arrival.specs.Asks.{trades, Enters, Decides, Arrives, Goes, Finishes, Rests, TakesOn, TookAs};
 
 pub fn guard_of(t: Terms) -> Guard
     ensures { λ r. ⌜ r ≡ guardOf t ⌝ }
@@ -48,55 +49,57 @@ pub fn guard_of(t: Terms) -> Guard
     }
 }
 
-// Price protection, for quotes only: the reason to reject, or 0.
-pub fn protection_for(b: Book, t: Terms, e: Entry) -> u32
-    requires { ⌜ Enters t e b ⌝ }
-    ensures { λ r. ⌜ r ≡ protectionFor t e (entriesOf b) ⌝ }
+// Price protection before this NBO or NBB, for quotes only: the reason to reject, or 0.
+pub fn protection_for(t: Terms, e: Entry, national: u32) -> u32
+    requires { ⌜ Cents national (e .limit) ⌝ }
+    ensures { λ r. ⌜ r ≡ protectionBefore t e national ⌝ }
 {
     if !is_quote(e) {
         return 0;
     }
-    let away = away_of(market_of(t), e.sell);
-    let best = national_price(b, e.sell, away);
-    protection_of(guard_of(t), e.sell, best, e.limit)
+    protection_of(guard_of(t), e.sell, national, e.limit)
 }
 
-// Whether it would trade at all.
-fn is_trading(b: Book, t: Terms, e: Entry) -> bool
-    requires { ⌜ Enters t e b ⌝ }
-    ensures { λ r. ⌜ r ≡ not (noneTraded (took (marketOf t) e (entriesOf b) .records)) ⌝ }
+// Whether it would trade at all: mostly the contra price is out of its reach, and nobody has to be looked for.
+fn is_trading(b: Book, t: Terms, e: Entry, f: Facing) -> bool
+    requires { ⌜ Enters t e f b ⌝ }
+    ensures { λ r. ⌜ r ≡ trades t e (entriesOf b) ⌝ }
 {
     if is_minding(kind_of(e)) {
         return false;
     }
-    let next = next_trade(b, e, bound_of(market_of(t), e), e.quantity);
+    let cap = bound_of(market_of(t), e);
+    if !is_offered(e.sell, cap, f.contra) {
+        return false;
+    }
+    let next = next_trade(b, e, cap, e.quantity);
     next.going
 }
 
 // A quote that is stopped before it trades: the reason to reject, or 0.
-fn stops_at_once(b: Book, t: Terms, e: Entry) -> u32
-    requires { ⌜ Enters t e b ⌝ }
+fn stops_at_once(b: Book, t: Terms, e: Entry, f: Facing, trading: bool) -> u32
+    requires { ⌜ Decides t e f trading b ⌝ }
     ensures { λ r. ⌜ r ≡ stopsAtOnce t e (entriesOf b) ⌝ }
 {
     if !is_quote(e) {
         return 0;
     }
-    if is_trading(b, t, e) {
+    if trading {
         return 0;
     }
-    stop_for(b, t, e)
+    stop_for(b, t, e, f.contra)
 }
 
 // Why it is rejected, or 0.
-pub fn rejection_of(b: Book, t: Terms, e: Entry) -> u32
-    requires { ⌜ Enters t e b ⌝ }
+pub fn rejection_of(b: Book, t: Terms, e: Entry, f: Facing, trading: bool) -> u32
+    requires { ⌜ Decides t e f trading b ⌝ }
     ensures { λ r. ⌜ r ≡ rejection t e (entriesOf b) ⌝ }
 {
-    let why = protection_for(b, t, e);
+    let why = protection_for(t, e, f.national);
     if why != 0 {
         return why;
     }
-    stops_at_once(b, t, e)
+    stops_at_once(b, t, e, f, trading)
 }
 
 // It is rejected, and the maker's quotes that go with it are cancelled.
@@ -125,11 +128,19 @@ fn replace(b: Book, e: Entry, room: &mut [u8], n: &mut usize) -> Book
 }
 
 // What is left rests, last in rank.
-fn post_rest(b: Book, t: Terms, e: Entry, left: u32, room: &mut [u8], n: &mut usize) -> Book
-    requires { ⌜ Rests t e b left (now room) (now n) ⌝ }
+fn post_rest(
+    b: Book,
+    t: Terms,
+    e: Entry,
+    contra: u32,
+    left: u32,
+    room: &mut [u8],
+    n: &mut usize,
+) -> Book
+    requires { ⌜ Rests t e contra b left (now room) (now n) ⌝ }
     ensures { λ r. ⌜ Staged (posted t e left (entriesOf b)) (now (room .entry)) (now (n .entry)) r (now (room .exit)) (now (n .exit)) ⌝ }
 {
-    let rests = rest_of(e, left, prices_of(b, t, e));
+    let rests = rest_of(e, left, prices_of(t, e, contra));
     let report = tell_rested(rests);
     put(room, n, report);
     post_entry(b, rests)
@@ -166,50 +177,75 @@ fn cancel_rest(b: Book, e: Entry, left: u32, why: u32, room: &mut [u8], n: &mut 
 }
 
 // The end of an arrival that was not rejected.
-fn finish(b: Book, t: Terms, e: Entry, left: u32, room: &mut [u8], n: &mut usize) -> Book
-    requires { ⌜ Finishes t e b left (now room) (now n) ⌝ }
+fn finish(
+    b: Book,
+    t: Terms,
+    e: Entry,
+    contra: u32,
+    left: u32,
+    room: &mut [u8],
+    n: &mut usize,
+) -> Book
+    requires { ⌜ Finishes t e contra b left (now room) (now n) ⌝ }
     ensures { λ r. ⌜ Staged (finished t e left (stopFor t e (entriesOf b)) (entriesOf b)) (now (room .entry)) (now (n .entry)) r (now (room .exit)) (now (n .exit)) ⌝ }
 {
     if left == 0 {
         return b;
     }
-    let why = stop_for(b, t, e);
+    let why = stop_for(b, t, e, contra);
     if why == 0 {
-        return post_rest(b, t, e, left, room, n);
+        return post_rest(b, t, e, contra, left, room, n);
     }
     cancel_rest(b, e, left, why, room, n)
 }
 
-// Trades, but for a kind that only adds.
-fn take(b: Book, t: Terms, e: Entry, left: &mut u32, room: &mut [u8], n: &mut usize) -> Book
-    requires { ⌜ TakesOn t e b (now left) (now room) (now n) ⌝ }
+// Trades, if it does.
+fn take(
+    b: Book,
+    t: Terms,
+    e: Entry,
+    trading: bool,
+    left: &mut u32,
+    room: &mut [u8],
+    n: &mut usize,
+) -> Book
+    requires { ⌜ TakesOn t e trading b (now left) (now room) (now n) ⌝ }
     ensures { λ r. ⌜ TookAs (took (marketOf t) e (entriesOf b)) (now (room .entry)) (now (n .entry)) r (now (left .exit)) (now (room .exit)) (now (n .exit)) ⌝ }
 {
-    if is_minding(kind_of(e)) {
+    if !trading {
         return b;
     }
     take_all(b, e, bound_of(market_of(t), e), left, room, n)
 }
 
 // The quote it replaces goes; trades; what is left rests or is cancelled.
-fn enter(b: Book, t: Terms, e: Entry, room: &mut [u8], n: &mut usize) -> Book
-    requires { ⌜ Arrives (entered t e (entriesOf b)) t e b (now room) (now n) ⌝ }
+fn enter(
+    b: Book,
+    t: Terms,
+    e: Entry,
+    f: Facing,
+    trading: bool,
+    room: &mut [u8],
+    n: &mut usize,
+) -> Book
+    requires { ⌜ Goes t e f trading b (now room) (now n) ⌝ }
     ensures { λ r. ⌜ Staged (entered t e (entriesOf b)) (now (room .entry)) (now (n .entry)) r (now (room .exit)) (now (n .exit)) ⌝ }
 {
     let c = replace(b, e, room, n);
     let mut left = e.quantity;
-    let d = take(c, t, e, &mut left, room, n);
-    finish(d, t, e, left, room, n)
+    let d = take(c, t, e, trading, &mut left, room, n);
+    finish(d, t, e, f.contra, left, room, n)
 }
 
 // The arrival of a quote or an order, before settling.
-pub fn arrive(b: Book, t: Terms, e: Entry, room: &mut [u8], n: &mut usize) -> Book
-    requires { ⌜ Arrives (arrived t e (entriesOf b)) t e b (now room) (now n) ⌝ }
+pub fn arrive(b: Book, t: Terms, e: Entry, f: Facing, room: &mut [u8], n: &mut usize) -> Book
+    requires { ⌜ Arrives t e f b (now room) (now n) ⌝ }
     ensures { λ r. ⌜ Staged (arrived t e (entriesOf b)) (now (room .entry)) (now (n .entry)) r (now (room .exit)) (now (n .exit)) ⌝ }
 {
-    let why = rejection_of(b, t, e);
+    let trading = is_trading(b, t, e, f);
+    let why = rejection_of(b, t, e, f, trading);
     if why != 0 {
         return reject(b, e, why, room, n);
     }
-    enter(b, t, e, room, n)
+    enter(b, t, e, f, trading, room, n)
 }

@@ -5,6 +5,13 @@ pub mod post;
 pub mod sweep;
 pub mod take;
 
+// What an arriving quote or order faces: C, the best working price against it, and NBO for a bid, NBB for an offer; 0 for none. The test of the
+// series has seen them on its way.
+pub struct Facing {
+    pub contra: u32,
+    pub national: u32,
+}
+
 // The numbers of a series.
 pub struct Terms {
     pub put: bool,

@@ -4,21 +4,19 @@ use book::Book;
 use book::Entry;
 use book::Pricing;
 use book::entries::kind_of;
-use book::look::contra_price;
 use book::look::is_hidden_within;
 use prices::Market;
 use prices::Prices;
 use prices::aims::aims_of;
-use prices::aims::is_minding;
 use prices::aims::is_sliding;
 use prices::post::stop_of;
 use prices::side::away_of;
 ghost use mathlib.Core.Path.{_≡_};
-ghost use Rattle.prices.specs.Aims.{minded};
+ghost use Rattle.prices.specs.Side.{away};
+ghost use Rattle.prices.specs.Aims.{Bounds};
 ghost use Rattle.book.specs.Shape.{entriesOf, WellFormed};
-ghost use Rattle.book.specs.Look.{contra};
 ghost use Rattle.arrival.specs.Terms.{marketOf};
-ghost use Rattle.arrival.specs.Post.{pricesOf, pricingOf, resting, bars21, stopFor, Posts};
+ghost use Rattle.arrival.specs.Post.{pricesBefore, pricingOf, resting, bars21, stopFor, Posts};
 
 pub fn market_of(t: Terms) -> Market
     ensures { λ r. ⌜ r ≡ marketOf t ⌝ }
@@ -30,26 +28,14 @@ pub fn market_of(t: Terms) -> Market
     }
 }
 
-// The contra price, where the kind minds it.
-fn contra_for(b: Book, e: Entry) -> u32
-    requires { ⌜ WellFormed b ⌝ }
-    ensures { λ r. ⌜ r ≡ minded (e .kind) (contra (e .sell) (entriesOf b)) ⌝ }
-{
-    if is_minding(kind_of(e)) {
-        return contra_price(b, e.sell);
-    }
-    0
-}
-
-// The prices at which it would rest.
-pub fn prices_of(b: Book, t: Terms, e: Entry) -> Prices
-    requires { ⌜ Posts t e b ⌝ }
-    ensures { λ r. ⌜ r ≡ pricesOf t e (entriesOf b) ⌝ }
+// The prices at which it would rest, before this contra price.
+pub fn prices_of(t: Terms, e: Entry, contra: u32) -> Prices
+    requires { ⌜ Bounds (t .m) (away (marketOf t) (e .sell)) contra ⌝ }
+    ensures { λ r. ⌜ r ≡ pricesBefore t e contra ⌝ }
 {
     let kind = kind_of(e);
     if is_sliding(kind) {
         let away = away_of(market_of(t), e.sell);
-        let contra = contra_for(b, e);
         return aims_of(t.m, kind, e.sell, e.limit, away, contra);
     }
     Prices {
@@ -98,11 +84,11 @@ fn is_barred_21(b: Book, e: Entry) -> bool
 }
 
 // The reason why it may not rest, or 0.
-pub fn stop_for(b: Book, t: Terms, e: Entry) -> u32
-    requires { ⌜ Posts t e b ⌝ }
+pub fn stop_for(b: Book, t: Terms, e: Entry, contra: u32) -> u32
+    requires { ⌜ Posts t e b contra ⌝ }
     ensures { λ r. ⌜ r ≡ stopFor t e (entriesOf b) ⌝ }
 {
-    let p = prices_of(b, t, e);
+    let p = prices_of(t, e, contra);
     let hidden = is_barred_21(b, e);
     let away = away_of(market_of(t), e.sell);
     stop_of(

@@ -15,7 +15,7 @@ use settle::tell::tell_traded;
 ghost use mathlib.Core.Path.{_≡_};
 ghost use mathlib.Core.Bool.{false};
 ghost use Rattle.book.specs.Shape.{WellFormed};
-ghost use Rattle.arrival.specs.Take.{bound, shownOnly, taken};
+ghost use Rattle.arrival.specs.Take.{bound, shownOnly, offered, taken};
 ghost use Rattle.arrival.specs.Asks.{Takes, TookAs, takingOf, NextTrade};
 
 // The lesser of the limit and the away price: no trade goes beyond it.
@@ -29,6 +29,13 @@ pub fn is_shown_only(e: Entry) -> bool
     ensures { λ r. ⌜ r ≡ shownOnly e ⌝ }
 {
     e.kind == 2
+}
+
+// Whether there is anything at this price, 0 for none, and within the bound.
+pub fn is_offered(sell: bool, cap: u32, price: u32) -> bool
+    ensures { λ r. ⌜ r ≡ offered sell cap price ⌝ }
+{
+    (price != 0) & is_reaching(sell, cap, price)
 }
 
 // A trade to come: with the entry at a place, for so many contracts.

@@ -3,7 +3,6 @@ use crate::Book;
 use crate::Entry;
 use crate::Least;
 use crate::Rank;
-use crate::entries::display_of;
 use crate::entries::is_against;
 use crate::entries::is_displayed;
 use prices::side::is_reaching;
@@ -13,8 +12,8 @@ ghost use mathlib.Core.Path.{_≡_};
 ghost use mathlib.Core.Bool.{true, cond};
 ghost use Prim.Native.Nat.{_<_};
 ghost use Rattle.book.specs.Shape.{entriesOf, WellFormed};
-ghost use Rattle.book.specs.Look.{cost, priority, eligible, bestContra, rankOf, lower, rankHeld, working, facing, contra, national, hidden, hiddenWithin};
-ghost use Rattle.book.specs.Entries.{display, displayed};
+ghost use Rattle.book.specs.Look.{cost, priority, eligible, bestContra, rankOf, lower, rankHeld, working, facing, hidden, hiddenWithin};
+ghost use Rattle.book.specs.Entries.{displayed};
 ghost use Rattle.lists.specs.Choose.{keyed};
 
 // What a price costs a taker: less is better.
@@ -99,54 +98,14 @@ pub fn rank_of(held: Least) -> Rank
     Rank::Nowhere
 }
 
-// Dark interest counts.
-fn contra_turn(sell: bool, q: u32, e: Entry) -> u32
+// A turn of a scan for the best working price that a side faces. Dark interest counts.
+pub fn contra_turn(sell: bool, q: u32, e: Entry) -> u32
     ensures { λ r. ⌜ r ≡ facing working sell q e ⌝ }
 {
     if is_eligible(sell, false, e) {
         return nearer_of(sell, q, e.working);
     }
     q
-}
-
-// The best working price that a side faces, 0 for none.
-pub fn contra_price(b: Book, sell: bool) -> u32
-    requires { ⌜ WellFormed b ⌝ }
-    ensures { λ r. ⌜ r ≡ contra sell (entriesOf b) ⌝ }
-{
-    let n = b.count;
-    let mut price = 0u32;
-    let mut i = 0usize;
-    while i < n {
-        price = contra_turn(sell, price, b.entries[i]);
-        i += 1;
-    }
-    price
-}
-
-fn national_turn(sell: bool, q: u32, e: Entry) -> u32
-    ensures { λ r. ⌜ r ≡ facing display sell q e ⌝ }
-{
-    let shown = display_of(e);
-    if is_against(sell, e) {
-        return nearer_of(sell, q, shown);
-    }
-    q
-}
-
-// NBO for a bid, NBB for an offer: the away price, or a display that is nearer; 0 for none.
-pub fn national_price(b: Book, sell: bool, away: u32) -> u32
-    requires { ⌜ WellFormed b ⌝ }
-    ensures { λ r. ⌜ r ≡ national sell away (entriesOf b) ⌝ }
-{
-    let n = b.count;
-    let mut price = away;
-    let mut i = 0usize;
-    while i < n {
-        price = national_turn(sell, price, b.entries[i]);
-        i += 1;
-    }
-    price
 }
 
 pub fn is_hidden(sell: bool, limit: u32, e: Entry) -> bool

@@ -21,6 +21,7 @@ use Rattle.arrival.specs.declared.Terms.{Terms}
 use Rattle.arrival.specs.Terms.{marketOf}
 use Rattle.arrival.specs.Arrive.{told, blocks}
 use Rattle.settling.proofs.StageLaws.{roomy-as}
+use Rattle.checking.specs.declared.Check.{Check}
 use Rattle.series.specs.declared.Series.{Series}
 use Rattle.handler.specs.declared.Ask.{Ask}
 use Rattle.handler.specs.declared.Answer.{Answer}
@@ -40,7 +41,7 @@ settle-open {t} {b} {room} {n} x p k q =
     subst (λ (y : Market). Settleable y b room n) (sym q)
     (record { well = x .well; sound = x .sound; roomy = roomy-as (ap (λ (y : Ran (List Entry) Report). y .records) (settled-open t (entriesOf b) (eq-eqb (t .phase) 1 p))) (x .roomy) })
 
-module _ (s : Series) (a : Ask) (x : Acts s a) {room : List ℕ} (space : 31920 ≤ length room) {b : Book} {room′ : List ℕ} {n′ : ℕ}
+module _ (s : Series) {check : Check} (a : Ask) (x : Acts s check a) {room : List ℕ} (space : 31920 ≤ length room) {b : Book} {room′ : List ℕ} {n′ : ℕ}
     (first : Staged (own (s .terms) a (entriesOf (s .book))) room 0 b room′ n′) (t : Terms) (e : t ≡ termsAfter (s .terms) a) where
   pub settles-next : SettlesIf t b room′ n′
   settles-next =

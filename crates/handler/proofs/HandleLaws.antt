@@ -11,8 +11,9 @@ use borrow.Author.Tests.{leb-true, leb-false, le-leb, lt-leb, eq-eqb, ne-eqb, eq
 use Rattle.lists.specs.Choose.{Found, nowhere, found}
 use Rattle.lists.specs.Tests.{any}
 use Rattle.lists.proofs.Bools.{clash, and-left, and-right}
+use Rattle.checking.specs.declared.Check.{Check}
 use Rattle.checking.specs.Summary.{isFound}
-use Rattle.checking.proofs.SummaryLaws.{any-quote}
+use Rattle.checking.proofs.SummaryLaws.{any-quote, faced-contra, shown-national}
 use Rattle.book.specs.declared.Entry.{Entry}
 use Rattle.book.specs.declared.Book.{Book}
 use Rattle.book.specs.Shape.{entriesOf, WellFormed}
@@ -25,13 +26,14 @@ use Rattle.arrival.specs.declared.Terms.{Terms}
 use Rattle.arrival.specs.Terms.{marketOf, guardOf}
 use Rattle.arrival.specs.Arrive.{protectionFor, stopsAtOnce, orElse, rejection, bothQuotes, blocks}
 use Rattle.arrival.proofs.ReasonLaws.{at-once-among}
-use Rattle.arrival.specs.Asks.{Enters}
+use Rattle.arrival.specs.declared.Facing.{Facing}
+use Rattle.arrival.specs.Asks.{Arriving, Faces, Enters}
 use Rattle.series.specs.declared.Series.{Series}
 use Rattle.handler.specs.declared.Ask.{Ask}
 use Rattle.handler.specs.Asked.{enters, quotes}
 use Rattle.handler.specs.Refuse.{makersOnly, badParty, isFull, isNowhere, isMissing, goneAt, refusalOf}
 use Rattle.handler.specs.Accept.{comer, termsAfter}
-use Rattle.handler.specs.Acts.{Whole, Acts, BlocksFor}
+use Rattle.handler.specs.Acts.{Whole, Acts, facingBy, BlocksFor}
 use Rattle.handler.proofs.Passed.{Accepted, facts, tests, accepted-arriving}
 
 -- ---- the party ----
@@ -122,18 +124,28 @@ module _ (t : Terms) (a : Ask) where
 
 -- ---- an event that no test refuses ----
 
-pub acts-accepted : {s : Series} {a : Ask} → Acts s a → Accepted s a
+pub acts-accepted : {s : Series} {check : Check} {a : Ask} → Acts s check a → Accepted s a
 acts-accepted x = record { sound = x .whole .sound; kind = x .kind; passes = x .passes }
 
-module _ {s : Series} {a : Ask} (x : Acts s a) where
+module _ {s : Series} {check : Check} {a : Ask} (x : Acts s check a) where
   pub acts-comer : a .kind ≤ 6 → (s .terms .given ≤ 1000000) × ((a .party ≤ 99) × (a .kind ≤ 6))
   acts-comer k =
       (facts s a (acts-accepted x) .sound .most, (any-party a (omega arith) (tests s a (acts-accepted x) .party) .1, k))
 
-  pub acts-enters : a .kind ≤ 6 → (e : Entry) → e ≡ comer (s .terms .given) a → Enters (s .terms) e (s .book)
-  acts-enters k e q =
-      subst (λ (y : Entry). Enters (s .terms) y (s .book)) (sym q)
-      (record { well = x .whole .well; arriving = accepted-arriving s a (acts-accepted x) (le-leb (a .kind) 6 k) })
+  -- it faces what the test of the series has seen
+  acts-faces : (e : Entry) → Faces (s .terms) e (entriesOf (s .book)) (facingBy check (s .terms) (e .sell))
+  acts-faces e = record {
+    contra = faced-contra (x .whole .seen) (e .sell);
+    national = shown-national (x .whole .seen) (e .sell) (away (marketOf (s .terms)) (e .sell));
+  }
+
+  pub acts-enters : a .kind ≤ 6 → (e : Entry) → e ≡ comer (s .terms .given) a → (f : Facing) → f ≡ facingBy check (s .terms) (e .sell)
+      → Enters (s .terms) e f (s .book)
+  acts-enters k e q f p = record {
+    well = x .whole .well;
+    arriving = subst (λ (y : Entry). Arriving (s .terms) y (entriesOf (s .book))) (sym q) (accepted-arriving s a (acts-accepted x) (le-leb (a .kind) 6 k));
+    faces = subst (Faces (s .terms) e (entriesOf (s .book))) (sym p) (acts-faces e);
+  }
 
 -- 25 and 26 are told by the series' numbers and the limit alone
 pub blocks-by : (t : Terms) (e : Entry) (l : List Entry) → quote e ≡ true

@@ -12,6 +12,7 @@ use borrow.Author.Tests.{le-ltb, ltb-false, eq-eqb, ne-eqb, eqb-true, eqb-false}
 use Rattle.packing.specs.declared.message.Event.{Event}
 use Rattle.packing.specs.Codec.{unpackOf}
 use Rattle.packing.specs.Message.{messages}
+use Rattle.checking.specs.declared.Check.{Check}
 use Rattle.series.specs.declared.Series.{Series}
 use Rattle.series.specs.Series.{soundSeries}
 use Rattle.handler.specs.declared.Answer.{Answer}
@@ -67,7 +68,7 @@ none-early space sound h = by (ltb space 31920) refl sound refl h
     by false p true q k = (ltb-false space 31920 p, refl)
 
 -- what the code returns, once 10 and 11 are tested
-module _ (s : Series) (message room : List ℕ) (why : ℕ) (admits : Admits s (length room) why) where
+module _ (s : Series) (message room : List ℕ) (why : ℕ) {check : Check} (admits : Admits s (length room) why check) where
   pub returns-early : (why ≡ 0 → ⊥) → (r : Answer) → r ≡ record { refusal = why; count = 0; series = s } → answered r room ≡ handled s message room
   returns-early h r q =
       let n : why ≡ beforeReading (length room) (soundSeries s) = admits .number in

@@ -7,11 +7,15 @@ use mathlib.Core.Bool.{Bool, true, false, cond, _&&_}
 use mathlib.Core.List.{List}
 use lib.Dec.{eqb}
 use lib.ListN.{length, set}
+use Rattle.prices.specs.Side.{away, nearer}
 use Rattle.book.specs.declared.Entry.{Entry}
 use Rattle.book.specs.declared.Book.{Book}
 use Rattle.book.specs.Shape.{entriesOf, WellFormed}
 use Rattle.settling.specs.Stage.{Roomy, SoundFor}
+use Rattle.checking.specs.declared.Check.{Check}
+use Rattle.checking.specs.Summary.{Summary, faced, facedShown}
 use Rattle.arrival.specs.declared.Terms.{Terms}
+use Rattle.arrival.specs.declared.Facing.{Facing}
 use Rattle.arrival.specs.Terms.{marketOf}
 use Rattle.arrival.specs.Arrive.{blocks}
 use Rattle.series.specs.declared.Series.{Series}
@@ -22,22 +26,27 @@ use Rattle.handler.specs.Refuse.{badParty, refusalOf}
 use Rattle.handler.specs.Accept.{comer, settledIf}
 use Rattle.handler.specs.Handle.{beforeReading}
 
--- a sound series, with its arrays of 64 and 16 places
-pub record Whole (s : Series) : Type 0 where
+-- a sound series, with its arrays of 64 and 16 places, and what the test of it has seen
+pub record Whole (s : Series) (check : Check) : Type 0 where
   pub sound : soundSeries s ≡ true
   pub well : WellFormed (s .book)
   pub blocks : length (s .blocked) ≡ 16
+  pub seen : Summary (entriesOf (s .book)) check
 
 -- what is known once 10 and 11 are tested
-pub record Admits (s : Series) (space why : ℕ) : Type 0 where
+pub record Admits (s : Series) (space why : ℕ) (check : Check) : Type 0 where
   pub number : why ≡ beforeReading space (soundSeries s)
-  pub whole : why ≡ 0 → Whole s
+  pub whole : why ≡ 0 → Whole s check
 
 -- and an event that no test refuses
-pub record Acts (s : Series) (a : Ask) : Type 0 where
-  pub whole : Whole s
+pub record Acts (s : Series) (check : Check) (a : Ask) : Type 0 where
+  pub whole : Whole s check
   pub kind : 1 ≤ a .kind
   pub passes : refusalOf s a ≡ 0
+
+-- what side s faces, by what the test has seen
+abbrev pub facingBy : Check → Terms → Bool → Facing
+facingBy check t s = record { contra = faced check s; national = nearer s (away (marketOf t) s) (facedShown check s) }
 
 -- settling, in an open series
 pub record SettlesIf (t : Terms) (b : Book) (room : List ℕ) (n : ℕ) : Type 0 where

@@ -4,6 +4,7 @@ use crate::Ask;
 use crate::asking::ask_of;
 use crate::asking::comer_of;
 use crate::refuse::refusal_of;
+use arrival::Facing;
 use arrival::Terms;
 use arrival::arrive::arrive;
 use arrival::arrive::guard_of;
@@ -13,6 +14,9 @@ use arrival::post::market_of;
 use arrival::sweep::sweep_all;
 use book::Book;
 use book::find::find_entry;
+use checking::Check;
+use checking::figures::price_faced;
+use checking::figures::price_shown;
 use packing::message::Event;
 use packing::message::Unpacked;
 use packing::message::unpack;
@@ -21,6 +25,8 @@ use packing::report::Report;
 use prices::Market;
 use prices::protect::is_above_strike;
 use prices::protect::is_above_underlying;
+use prices::side::away_of;
+use prices::side::nearer_of;
 use series::Series;
 use series::soundness::check_series;
 use settle::room::put;
@@ -39,7 +45,7 @@ ghost use Rattle.arrival.specs.Arrive.{told};
 ghost use Rattle.handler.specs.Asked.{askOf};
 ghost use Rattle.handler.specs.Refuse.{refusalOf};
 ghost use Rattle.handler.specs.Accept.{own, termsAfter, settledIf};
-ghost use Rattle.handler.specs.Acts.{Whole, Admits, Acts, SettlesIf, BlocksFor, blockedBy, Marks};
+ghost use Rattle.handler.specs.Acts.{Whole, Admits, Acts, facingBy, SettlesIf, BlocksFor, blockedBy, Marks};
 ghost use Rattle.handler.specs.Handle.{firstOf, answered, accepted, judged, handled, handledAt};
 
 fn refused(series: Series, why: u32) -> Answer
@@ -97,9 +103,21 @@ fn note_phase(b: Book, phase: u32, room: &mut [u8], n: &mut usize) -> Book
     sweep_all(b, phase, room, n)
 }
 
+// What a side faces, by what the test of the series has seen.
+fn facing_of(check: Check, t: Terms, sell: bool) -> Facing
+    ensures { λ r. ⌜ r ≡ facingBy check t sell ⌝ }
+{
+    let shown = price_shown(check, sell);
+    let away = away_of(market_of(t), sell);
+    Facing {
+        contra: price_faced(check, sell),
+        national: nearer_of(sell, away, shown),
+    }
+}
+
 // The message's own part.
-fn act(s: Series, a: Ask, room: &mut [u8], n: &mut usize) -> Book
-    requires { ⌜ Acts s a ⌝ }
+fn act(s: Series, check: Check, a: Ask, room: &mut [u8], n: &mut usize) -> Book
+    requires { ⌜ Acts s check a ⌝ }
     requires { ⌜ Roomy (now room) (now n) (own (s .terms) a (entriesOf (s .book)) .records) ⌝ }
     ensures { λ r. ⌜ Staged (own (s .terms) a (entriesOf (s .book))) (now (room .entry)) (now (n .entry)) r (now (room .exit)) (now (n .exit)) ⌝ }
 {
@@ -107,7 +125,8 @@ fn act(s: Series, a: Ask, room: &mut [u8], n: &mut usize) -> Book
     let t = s.terms;
     if a.kind <= 6 {
         let e = comer_of(t.given, a);
-        return arrive(b, t, e, room, n);
+        let f = facing_of(check, t, e.sell);
+        return arrive(b, t, e, f, room, n);
     }
     if a.kind == 7 {
         let party = a.party as u8;
@@ -179,14 +198,14 @@ fn put_together(s: Series, a: Ask, terms: Terms, blocking: bool, book: Book) -> 
 }
 
 // An event that no test refuses.
-fn accept(s: Series, a: Ask, room: &mut [u8]) -> Answer
-    requires { ⌜ Acts s a ⌝ }
+fn accept(s: Series, check: Check, a: Ask, room: &mut [u8]) -> Answer
+    requires { ⌜ Acts s check a ⌝ }
     requires { ⌜ 31920 ≤ length (now room) ⌝ }
     ensures { λ r. ⌜ answered r (now (room .exit)) ≡ accepted s a (now (room .entry)) ⌝ }
 {
     let blocking = is_blocking(s.terms, a);
     let mut n = 0usize;
-    let b = act(s, a, room, &mut n);
+    let b = act(s, check, a, room, &mut n);
     let t = terms_after(s.terms, a);
     let after = settle_if(t, b, room, &mut n);
     let series = put_together(s, a, t, blocking, after);
@@ -198,8 +217,8 @@ fn accept(s: Series, a: Ask, room: &mut [u8]) -> Answer
 }
 
 // What a message that was read is answered.
-fn answer_event(series: Series, event: Event, room: &mut [u8]) -> Answer
-    requires { ⌜ Whole series ⌝ }
+fn answer_event(series: Series, check: Check, event: Event, room: &mut [u8]) -> Answer
+    requires { ⌜ Whole series check ⌝ }
     requires { ⌜ 31920 ≤ length (now room) ⌝ }
     ensures { λ r. ⌜ answered r (now (room .exit)) ≡ judged series (askOf event) (now (room .entry)) (refusalOf series (askOf event)) ⌝ }
 {
@@ -208,7 +227,7 @@ fn answer_event(series: Series, event: Event, room: &mut [u8]) -> Answer
     if why != 0 {
         return refused(series, why);
     }
-    accept(series, a, room)
+    accept(series, check, a, room)
 }
 
 // The first of two refusals whose test holds.
@@ -224,38 +243,45 @@ fn first_of(one: bool, number: u32, other: bool, next: u32) -> u32
     0
 }
 
+// A refusal, or 0 and what the test of the series has seen.
+pub struct Admission {
+    pub refusal: u32,
+    pub check: Check,
+}
+
 // The refusals that come before the message is read, by how many bytes of room there are.
-fn before_reading(series: Series, space: usize) -> u32
-    ensures { λ r. ⌜ Admits series space r ⌝ }
+fn before_reading(series: Series, space: usize) -> Admission
+    ensures { λ r. ⌜ Admits series space (r .refusal) (r .check) ⌝ }
 {
     let check = check_series(series);
-    first_of(space < 31920, 10, !check.ok, 11)
+    let refusal = first_of(space < 31920, 10, !check.ok, 11);
+    Admission { refusal, check }
 }
 
 // Every series, message and room has its answer.
 pub fn handle(series: Series, message: &[u8], room: &mut [u8]) -> Answer
     ensures { λ r. ⌜ answered r (now (room .exit)) ≡ handled series (now (message .entry)) (now (room .entry)) ⌝ }
 {
-    let why = before_reading(series, room.len());
-    if why != 0 {
-        return refused(series, why);
+    let admission = before_reading(series, room.len());
+    if admission.refusal != 0 {
+        return refused(series, admission.refusal);
     }
     let Unpacked::Message(event) = unpack(message) else {
         return refused(series, 1);
     };
-    answer_event(series, event, room)
+    answer_event(series, admission.check, event, room)
 }
 
 // The same of a message where it stands in a run.
 pub fn handle_at(series: Series, run: &[u8], at: usize, room: &mut [u8]) -> Answer
     ensures { λ r. ⌜ answered r (now (room .exit)) ≡ handledAt series (now (run .entry)) at (now (room .entry)) ⌝ }
 {
-    let why = before_reading(series, room.len());
-    if why != 0 {
-        return refused(series, why);
+    let admission = before_reading(series, room.len());
+    if admission.refusal != 0 {
+        return refused(series, admission.refusal);
     }
     let Unpacked::Message(event) = unpack_at(run, at) else {
         return refused(series, 1);
     };
-    answer_event(series, event, room)
+    answer_event(series, admission.check, event, room)
 }

@@ -1,13 +1,13 @@
 -- The searches of settling, by the ranks that they answered: who is eased, who stirs, and whom it trades with.
 -- Assumes nothing.
-use Prim.Native.Nat.{ℕ}
-use mathlib.Core.Path.{_≡_, sym, subst, ap, _∙_, fun-ext}
+use Prim.Native.Nat.{ℕ, _+_}
+use mathlib.Core.Path.{_≡_, refl, sym, subst, ap, _∙_, fun-ext}
 use mathlib.Core.Bool.{Bool, true, false}
-use mathlib.Core.List.{List}
+use mathlib.Core.List.{List, [], _∷_}
 use Rattle.prices.specs.declared.Market.{Market}
 use Rattle.prices.specs.Side.{away}
 use Rattle.lists.specs.Places.{At}
-use Rattle.lists.specs.Choose.{found}
+use Rattle.lists.specs.Choose.{scan, found}
 use Rattle.lists.specs.Run.{stop}
 use Rattle.lists.proofs.Bools.{and-left}
 use Rattle.lists.proofs.ChooseLaws.{Chosen, Tells}
@@ -16,13 +16,13 @@ use Rattle.book.specs.declared.Book.{Book}
 use Rattle.book.specs.declared.Rank.the-variants as rank
 use Rattle.book.specs.Entries.{against}
 use Rattle.book.specs.Shape.{entriesOf, WellFormed, Place, TwoPlaces}
-use Rattle.book.specs.Look.{rankOf, eligible, priority, contra, bestContra, lowest}
+use Rattle.book.specs.Look.{rankOf, eligible, priority, working, facing, nearest, contra, bestContra, lowest}
 use Rattle.book.proofs.LookLaws.{best-tells, lowest-tells}
 use Rattle.book.proofs.RankLaws.{Ranked, rank-none, rank-at, ranked-place, ranked-found, ranked-chosen}
 use Rattle.sound.proofs.KeepLaws.{never-facing}
 use Rattle.settling.specs.Settle.{easing, easeAt, nextEase, restlessAs, stirring, tradeAt, stirAt, nextStir}
 use Rattle.settling.proofs.Shapes.{number}
-use Rattle.settle.specs.Turns.{entryIn, ownMarket, stirringBy, tradeStep}
+use Rattle.settle.specs.Turns.{entryIn, ownMarket, ownTurn, stirringBy, tradeStep}
 
 -- what a search by entry number tells of the rank that it answered
 pub record Lowest (test : Entry → Bool) (b : Book) (i : ℕ) : Type 0 where
@@ -55,6 +55,23 @@ module _ (k : Market) (b : Book) (w : WellFormed b) where
   ease-none-is e = ap (easeAt k (entriesOf b)) (rank-none (lowest (easing k) (entriesOf b)) e)
 
 -- ---- trades and moves ----
+
+-- one scan for both of the book's own prices is a scan for each
+own-apart : (own : Market) (j : ℕ) (l : List Entry)
+    → scan (λ (o : Market) (_ : ℕ) (e : Entry). ownTurn o e) own j l
+    ≡ record {
+      m = own .m;
+      bid = scan (λ (p : ℕ) (_ : ℕ) (e : Entry). facing working true p e) (own .bid) j l;
+      offer = scan (λ (p : ℕ) (_ : ℕ) (e : Entry). facing working false p e) (own .offer) j l;
+    }
+unfolding scan
+own-apart own j [] = refl
+own-apart own j (x ∷ l) = own-apart (ownTurn own x) (j + 1) l
+
+pub own-scanned : (k : Market) (l : List Entry)
+    → scan (λ (o : Market) (_ : ℕ) (e : Entry). ownTurn o e) (record { m = k .m; bid = 0; offer = 0 }) 0 l ≡ ownMarket k l
+unfolding nearest
+own-scanned k l = own-apart (record { m = k .m; bid = 0; offer = 0 }) 0 l
 
 -- the book's own market shows each side what it faces
 pub own-faces : (k own : Market) (l : List Entry) → own ≡ ownMarket k l → (s : Bool) → away own s ≡ contra s l

@@ -15,7 +15,7 @@ use Rattle.packing.specs.declared.report.Report.{Report}
 use Rattle.book.specs.declared.Entry.{Entry}
 use Rattle.book.specs.declared.Book.{Book}
 use Rattle.book.specs.Shape.{zeroEntry, entriesOf, WellFormed, Place, TwoPlaces}
-use Rattle.book.specs.Look.{bestContra, contra}
+use Rattle.book.specs.Look.{bestContra, contra, working, facing}
 use Rattle.settling.specs.Tell.{traded}
 use Rattle.settling.specs.Stage.{Roomy, alone, SoundFor}
 use Rattle.settling.specs.Settle.{nextEase, easeAt, restlessAs, tradeAt, stirAt, eased, stirred, settled}
@@ -30,6 +30,10 @@ entryIn b i = getD (b .entries) i zeroEntry
 -- the book as a market: to each side its `away` price is C
 abbrev pub ownMarket : Market → List Entry → Market
 ownMarket k l = record { m = k .m; bid = contra true l; offer = contra false l }
+
+-- a turn of the scan for both of its prices
+abbrev pub ownTurn : Market → Entry → Market
+ownTurn own e = record { m = own .m; bid = facing working true (own .bid) e; offer = facing working false (own .offer) e }
 
 abbrev pub stirringBy : Market → Market → Entry → Bool
 stirringBy k own e = restlessAs k (away own (e .sell)) e (e .pricing)

@@ -6,7 +6,7 @@ use book::Least;
 use book::Pricing;
 use book::Rank;
 use book::entries::kind_of;
-use book::look::contra_price;
+use book::look::contra_turn;
 use book::look::lower_of;
 use book::look::rank_of;
 use prices::Market;
@@ -16,20 +16,36 @@ ghost use mathlib.Core.Path.{_≡_};
 ghost use Rattle.book.specs.Shape.{entriesOf, WellFormed};
 ghost use Rattle.book.specs.Look.{lowest, rankOf};
 ghost use Rattle.settling.specs.Settle.{stirs};
-ghost use Rattle.settle.specs.Turns.{ownMarket, stirringBy, Judged, Judgeable, Watched, Askable};
+ghost use Rattle.settle.specs.Turns.{ownTurn, ownMarket, stirringBy, Judged, Judgeable, Watched, Askable};
 
-// The book's own best prices, as a market: to each side the price that it faces.
+// One more entry: the better of what it offers either side and what was seen so far.
+fn own_turn(own: Market, e: Entry) -> Market
+    ensures { λ r. ⌜ r ≡ ownTurn own e ⌝ }
+{
+    Market {
+        m: own.m,
+        bid: contra_turn(true, own.bid, e),
+        offer: contra_turn(false, own.offer, e),
+    }
+}
+
+// The book's own best prices, as a market: to each side the price that it faces. Both in one pass, since settling asks at every step.
 pub fn own_market(b: Book, market: Market) -> Market
     requires { ⌜ WellFormed b ⌝ }
     ensures { λ r. ⌜ r ≡ ownMarket market (entriesOf b) ⌝ }
 {
-    let bid = contra_price(b, true);
-    let offer = contra_price(b, false);
-    Market {
+    let n = b.count;
+    let mut own = Market {
         m: market.m,
-        bid,
-        offer,
+        bid: 0,
+        offer: 0,
+    };
+    let mut i = 0usize;
+    while i < n {
+        own = own_turn(own, b.entries[i]);
+        i += 1;
     }
+    own
 }
 
 // Whether an entry has a trade to make or a price to move.

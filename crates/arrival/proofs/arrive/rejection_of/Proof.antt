@@ -1,20 +1,21 @@
+use mathlib.Core.Path.{_∙_}
 use Rattle.book.specs.Shape.{entriesOf}
-use Rattle.arrival.proofs.EnterLaws.{rejects-first, rejects-then}
+use Rattle.arrival.proofs.EnterLaws.{national-cents, protected-by, rejects-first, rejects-then}
 use borrow.Author.Needs.{needs}
 use Rattle.arrival.proofs.arrive.rejection_of.Statement.{statement}
 use Rattle.arrival.proofs.arrive.rejection_of.Tie as tie
 
 protection-for-requires : tie.Need-protection-for-requires
-protection-for-requires c κs = search needs
+protection-for-requires c κs = national-cents (c .pre .enters)
 
 returns : tie.Need-returns
-returns c = let s = c .before .before in rejects-first (s .args .t) (s .args .e) (entriesOf (s .args .b)) _ (c .before .protection-for .ensures) (c .if1 .taken)
+returns c = let s = c .before .before in rejects-first (s .args .t) (s .args .e) (entriesOf (s .args .b)) _ (c .before .protection-for .ensures ∙ protected-by (s .pre .enters)) (c .if1 .taken)
 
 stops-at-once-requires : tie.Need-stops-at-once-requires
 stops-at-once-requires c κs = search needs
 
 returns-2 : tie.Need-returns-2
-returns-2 c = let s = c .before .before .before in rejects-then (s .args .t) (s .args .e) (entriesOf (s .args .b)) _ _ (c .before .before .protection-for .ensures) (c .before .if1 .left) (c .stops-at-once .ensures)
+returns-2 c = let s = c .before .before .before in rejects-then (s .args .t) (s .args .e) (entriesOf (s .args .b)) _ _ (c .before .before .protection-for .ensures ∙ protected-by (s .pre .enters)) (c .before .if1 .left) (c .stops-at-once .ensures)
 
 pub rejection-of-spec : {M : Type 1} → statement M
 rejection-of-spec =

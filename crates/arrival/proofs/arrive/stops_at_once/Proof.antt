@@ -12,19 +12,16 @@ is-quote-requires c κs = search needs
 returns : tie.Need-returns
 returns c = let s = c .before .before in once-order (s .args .t) (s .args .e) (entriesOf (s .args .b)) (sym (c .before .is-quote .ensures) ∙ not-true _ (c .if1 .taken))
 
-is-trading-requires : tie.Need-is-trading-requires
-is-trading-requires c κs = search needs
-
 returns-2 : tie.Need-returns-2
-returns-2 c = let s = c .before .before .before .before in once-trades (s .args .t) (s .args .e) (entriesOf (s .args .b)) (sym (c .before .before .before .is-quote .ensures) ∙ not-false _ (c .before .before .if1 .left)) (not-true _ (sym (c .before .is-trading .ensures) ∙ c .if2 .taken))
+returns-2 c = let s = c .before .before .before in once-trades (s .args .t) (s .args .e) (entriesOf (s .args .b)) (sym (c .before .before .is-quote .ensures) ∙ not-false _ (c .before .if1 .left)) (not-true _ (sym (s .pre .trades) ∙ c .if2 .taken))
 
 stop-for-requires : tie.Need-stop-for-requires
-stop-for-requires c κs = enters-posts (c .before .before .before .before .pre)
+stop-for-requires c κs = enters-posts (c .before .before .before .pre .enters)
 
 returns-3 : tie.Need-returns-3
-returns-3 c = let s = c .before .before .before .before .before in once-stops (s .args .t) (s .args .e) (entriesOf (s .args .b)) _ (sym (c .before .before .before .before .is-quote .ensures) ∙ not-false _ (c .before .before .before .if1 .left)) (not-false _ (sym (c .before .before .is-trading .ensures) ∙ c .before .if2 .left)) (c .stop-for .ensures)
+returns-3 c = let s = c .before .before .before .before in once-stops (s .args .t) (s .args .e) (entriesOf (s .args .b)) _ (sym (c .before .before .before .is-quote .ensures) ∙ not-false _ (c .before .before .if1 .left)) (not-false _ (sym (s .pre .trades) ∙ c .before .if2 .left)) (c .stop-for .ensures)
 
 pub stops-at-once-spec : {M : Type 1} → statement M
 stops-at-once-spec =
     tie.close
-    (tie.spec is-quote-requires returns is-trading-requires returns-2 stop-for-requires returns-3)
+    (tie.spec is-quote-requires returns returns-2 stop-for-requires returns-3)

@@ -1,5 +1,4 @@
-use mathlib.Core.Path.{_∙_}
-use Rattle.arrival.proofs.PostingLaws.{aims-minded, bounds-minded}
+use mathlib.Core.Path.{refl, _∙_}
 use borrow.Author.Needs.{needs}
 use Rattle.arrival.proofs.post.prices_of.Statement.{statement}
 use Rattle.arrival.proofs.post.prices_of.Tie as tie
@@ -16,14 +15,11 @@ market-of-requires c κs = search needs
 away-of-requires : tie.Need-away-of-requires
 away-of-requires c κs = search needs
 
-contra-for-requires : tie.Need-contra-for-requires
-contra-for-requires c κs = search needs
-
 aims-of-requires : tie.Need-aims-of-requires
-aims-of-requires c κs = let s = c .before .before .before .before .before .before in rw (c .contra-for .ensures, c .before .away-of .ensures, c .before .before .market-of .ensures) (bounds-minded (s .args .e .kind) (s .pre .bounds))
+aims-of-requires c κs = let s = c .before .before .before .before .before in rw (c .away-of .ensures, c .before .market-of .ensures) (s .pre)
 
 returns : tie.Need-returns
-returns c = let s = c .before .before .before .before .before .before .before in rw (← c .before .before .before .before .before .before .kind-of .ensures, ← c .before .before .before .before .before .is-sliding .ensures, c .before .before .before .before .if1 .taken) (c .aims-of .ensures ∙ rw (c .before .contra-for .ensures, c .before .before .away-of .ensures, c .before .before .before .market-of .ensures, c .before .before .before .before .before .before .kind-of .ensures) (aims-minded (s .args .t .m) (s .args .e .kind) (s .args .e .sell) (s .args .e .limit) _ _))
+returns c = rw (← c .before .before .before .before .before .kind-of .ensures, ← c .before .before .before .before .is-sliding .ensures, c .before .before .before .if1 .taken) (c .aims-of .ensures ∙ rw (c .before .away-of .ensures, c .before .before .market-of .ensures, c .before .before .before .before .before .kind-of .ensures) refl)
 
 returns-2 : tie.Need-returns-2
 returns-2 c = rw (← c .before .before .kind-of .ensures, ← c .before .is-sliding .ensures, c .if1 .left)
@@ -36,7 +32,6 @@ prices-of-spec =
     is-sliding-requires
     market-of-requires
     away-of-requires
-    contra-for-requires
     aims-of-requires
     returns
     returns-2)

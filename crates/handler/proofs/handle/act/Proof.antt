@@ -19,14 +19,17 @@ use Rattle.handler.proofs.handle.act.Tie as tie
 comer-of-requires : tie.Need-comer-of-requires
 comer-of-requires c κs = acts-comer (c .before .before .before .before .before .pre .0) (c .if1 .taken)
 
+facing-of-requires : tie.Need-facing-of-requires
+facing-of-requires c κs = search needs
+
 arrive-requires : tie.Need-arrive-requires
-arrive-requires c κs = record { enters = acts-enters (c .before .before .before .before .before .before .before .before .pre .0) (c .before .before .before .if1 .taken) _ (c .before .before .comer-of .ensures); roomy = roomy-as (ap (λ (x : Ran (List Entry) Report). x .records) (sym (ap (λ (e : Entry). arrived (c .before .before .before .before .before .before .before .before .args .s .terms) e (entriesOf (c .before .before .before .before .before .before .before .before .args .s .book))) (c .before .before .comer-of .ensures) ∙ sym (own-enters (c .before .before .before .before .before .before .before .before .args .s .terms) (c .before .before .before .before .before .before .before .before .args .a) (entriesOf (c .before .before .before .before .before .before .before .before .args .s .book)) (le-leb _ _ (c .before .before .before .if1 .taken)))))) (c .before .before .before .before .before .before .before .before .pre .1) }
+arrive-requires c κs = let s = c .before .before .before .before .before .before .before .before .before in record { enters = acts-enters (s .pre .0) (c .before .before .before .before .if1 .taken) _ (c .before .before .before .comer-of .ensures) _ (c .before .before .facing-of .ensures); roomy = roomy-as (ap (λ (x : Ran (List Entry) Report). x .records) (sym (ap (λ (e : Entry). arrived (s .args .s .terms) e (entriesOf (s .args .s .book))) (c .before .before .before .comer-of .ensures) ∙ sym (own-enters (s .args .s .terms) (s .args .a) (entriesOf (s .args .s .book)) (le-leb _ _ (c .before .before .before .before .if1 .taken)))))) (s .pre .1) }
 
 same-length : tie.Need-same-length
 same-length c = search needs
 
 returns : tie.Need-returns
-returns c = staged-as (ap (λ (e : Entry). arrived (c .before .before .before .before .before .before .before .before .before .before .before .args .s .terms) e (entriesOf (c .before .before .before .before .before .before .before .before .before .before .before .args .s .book))) (c .before .before .before .before .before .comer-of .ensures) ∙ sym (own-enters (c .before .before .before .before .before .before .before .before .before .before .before .args .s .terms) (c .before .before .before .before .before .before .before .before .before .before .before .args .a) (entriesOf (c .before .before .before .before .before .before .before .before .before .before .before .args .s .book)) (le-leb _ _ (c .before .before .before .before .before .before .if1 .taken)))) (c .before .before .arrive .ensures)
+returns c = let s = c .before .before .before .before .before .before .before .before .before .before .before .before in staged-as (ap (λ (e : Entry). arrived (s .args .s .terms) e (entriesOf (s .args .s .book))) (c .before .before .before .before .before .before .comer-of .ensures) ∙ sym (own-enters (s .args .s .terms) (s .args .a) (entriesOf (s .args .s .book)) (le-leb _ _ (c .before .before .before .before .before .before .before .if1 .taken)))) (c .before .before .arrive .ensures)
 
 cast-party : tie.Need-cast-party
 cast-party c = omega (arith, any-party (c .before .before .before .before .before .before .before .before .args .a) (omega (arith, c .before .if2 .taken)) (tests (c .before .before .before .before .before .before .before .before .args .s) (c .before .before .before .before .before .before .before .before .args .a) (acts-accepted (c .before .before .before .before .before .before .before .before .pre .0)) .party) .1)
@@ -75,6 +78,7 @@ act-spec =
     tie.close
     (tie.spec
     comer-of-requires
+    facing-of-requires
     arrive-requires
     same-length
     returns

@@ -26,7 +26,7 @@ returns c =
       number = number;
       whole = λ h.
           let sound : soundSeries s ≡ _ = none-early space (soundSeries s) (sym number ∙ h) .1 in
-          record { sound = sound; well = tested .checked (tested .verdict ∙ sound) .well (tested .verdict ∙ sound); blocks = search needs };
+          record { sound = sound; well = tested .checked (tested .verdict ∙ sound) .well (tested .verdict ∙ sound); blocks = search needs; seen = tested .checked (tested .verdict ∙ sound) .summary (tested .verdict ∙ sound) };
     }
 
 pub before-reading-spec : {M : Type 1} → statement M

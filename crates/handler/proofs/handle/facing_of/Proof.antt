@@ -1,0 +1,33 @@
+use mathlib.Core.Path.{refl}
+use borrow.Author.Needs.{needs}
+use Rattle.handler.proofs.handle.facing_of.Statement.{statement}
+use Rattle.handler.proofs.handle.facing_of.Tie as tie
+
+price-shown-requires : tie.Need-price-shown-requires
+price-shown-requires c κs = search needs
+
+market-of-requires : tie.Need-market-of-requires
+market-of-requires c κs = search needs
+
+away-of-requires : tie.Need-away-of-requires
+away-of-requires c κs = search needs
+
+price-faced-requires : tie.Need-price-faced-requires
+price-faced-requires c κs = search needs
+
+nearer-of-requires : tie.Need-nearer-of-requires
+nearer-of-requires c κs = search needs
+
+returns : tie.Need-returns
+returns c = rw (c .nearer-of .ensures, c .before .price-faced .ensures, c .before .before .away-of .ensures, c .before .before .before .market-of .ensures, c .before .before .before .before .price-shown .ensures) refl
+
+pub facing-of-spec : {M : Type 1} → statement M
+facing-of-spec =
+    tie.close
+    (tie.spec
+    price-shown-requires
+    market-of-requires
+    away-of-requires
+    price-faced-requires
+    nearer-of-requires
+    returns)
