@@ -2,10 +2,25 @@
 """A lesson in words.
 
     python3 tests/lesson.py show FILE.bin          its setup and messages, numbered, in words
-    python3 tests/lesson.py make FILE.txt OUT.bin  a lesson of one's own: `setup ..`, then a message a line
+    python3 tests/lesson.py make FILE.txt OUT.bin  a lesson of one's own: one setup, then a message a line
 
-The words are those of words.py; tests/lesson_sources/*.txt has many to copy from.
-Indented lines and lines that begin with # or `lesson` are passed over.
+The words, with prices in cents:
+
+    setup call exempt M 1 K 10 strike 200     or put; or tested, where 25 and 26 are asked
+    open                                      or close, or halt
+    away 200 220                              away bid and offer; none for no price
+    underlying 150                            none for no price
+    enable 3                                  maker 3 may quote again
+    mmrp buy 3 225 x 50                       or plain, mmlo, mmalo, order, dark; or sell: party, limit, quantity
+    cancel 50 #3                              party 50 cancels its entry 3
+    withdraw 3 buy                            maker 3 cancels its buy quote
+    bytes 40 60 07                            bytes as they are, of any number
+
+Indented lines and lines that begin with # or `lesson` are passed over. tests/lesson_sources/*.txt has many lessons
+to copy from, one by one, each message with its reports below it in words.
+
+    ./waxglimmer run OUT.bin                       plays it
+    python3 tests/model.py OUT.bin                 what the independent model prints for it
 """
 
 import sys
