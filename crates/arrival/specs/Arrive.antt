@@ -1,5 +1,5 @@
 -- Arrival of a quote or an order, as document 01's "Arrival" has it; reports in the order of its "Reports": "rejection, then 30s, buy first; or 27, trades,
--- then rested, or cancelled rest and 29."
+-- then rested, or cancelled rest and 29." The whole is `arrived`, at the end; its parts stand above it: rejected, not rejected, and which of the two it is.
 -- Assumes nothing.
 use Prim.Native.Nat.{ℕ, zero, suc}
 use mathlib.Core.Bool.{Bool, true, false, cond, not, _&&_, _||_}
@@ -55,7 +55,7 @@ abbrev pub posted : Terms → Entry → ℕ → List Entry → Ran (List Entry) 
 posted t e left l =
     record { final = post (resting e left (pricesOf t e l)) l; records = rested (resting e left (pricesOf t e l)) ∷ [] }
 
--- what is left is cancelled, and for a quote "the maker's opposite quote too"
+-- the entry with what is left of it
 abbrev pub remainder : Entry → ℕ → Entry
 remainder e left = record {
   number = e .number;
@@ -68,7 +68,7 @@ remainder e left = record {
   pricing = e .pricing;
 }
 
--- "29 opposite side"
+-- "the rest is cancelled and", for a quote, "the maker's opposite quote too"; "29 opposite side"
 abbrev pub cancelledRest : ℕ → Entry → ℕ → List Entry → Ran (List Entry) Report
 cancelledRest why e left l = andThen (told (cancelled why (remainder e left)) l) (ofQuotes e (cutQuote 29 (e .party) (not (e .sell))))
 

@@ -1,4 +1,5 @@
 -- What the handler has seen to before a quote or an order arrives: the tests of its refusals, and the soundness of the series.
+-- No rule of document 01 stands here, only words for contracts.
 -- Assumes nothing.
 use Prim.Native.Nat.{ℕ, _+_, _-_, _≤_, _<_}
 use mathlib.Core.Path.{_≡_}

@@ -20,7 +20,7 @@ rankOf (found i e) = At i
 
 -- ---- who trades first ----
 
--- what a price costs a taker, less being better: to a buy the price, to a sell its mirror image
+-- what a price costs a taker, less being better: to a buy the price, to a sell its mirror image (200,000 is above every legal price)
 unfoldable pub cost : Bool → ℕ → ℕ
 cost false p = p
 cost true p = 200000 - p

@@ -46,6 +46,7 @@ abbrev pub heard : Series → List ℕ → Option Event → Handled
 heard s room none = refused nothing s room
 heard s room (some e) = judged s (askOf e) room (refusalOf s (askOf e))
 
+-- the two refusals before the message is read, as one number, for the contract of the code that asks them; `handled` says the same for itself:
 -- the first of two refusals whose test holds; 0, if neither does
 abbrev pub firstOf : Bool → ℕ → Bool → ℕ → ℕ
 firstOf one number other next = cond one number (cond other next 0)
@@ -54,12 +55,12 @@ firstOf one number other next = cond one number (cond other next 0)
 abbrev pub beforeReading : ℕ → Bool → ℕ
 beforeReading space sound = firstOf (ltb space 31920) 10 (not sound) 11
 
--- then the message
+-- WHAT IS ANSWERED: first 10, then 11, then the message is read
 unfoldable pub handled : Series → List ℕ → List ℕ → Handled
 handled s message room =
     cond (ltb (length room) 31920) (refused 10 s room)
     (cond (soundSeries s) (heard s room (unpackOf messages message)) (refused 11 s room))
 
--- a message where it stands in a run
+-- "A message in a long run is judged where it stands in the run"
 abbrev pub handledAt : Series → List ℕ → ℕ → List ℕ → Handled
 handledAt s run at room = handled s (messageAt run at) room

@@ -1,4 +1,5 @@
 -- The buffer that a caller lends for text.
+-- No rule of document 01 stands here, only words for contracts.
 use Prim.Native.Nat.{ℕ, _+_, _*_}
 use mathlib.Core.Bool.{Bool, cond}
 use mathlib.Core.List.{List}

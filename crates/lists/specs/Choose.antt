@@ -29,7 +29,7 @@ module _ {A : Type 0} where
   unfoldable pub first : (A → Bool) → (A → A → Bool) → List A → Found A
   first test before l = scan (choosing test before) nowhere 0 l
 
-  -- orders: the lesser key goes before; or nothing does, so that place alone counts
+  -- an ordering: the lesser key goes before
   abbrev pub lesser : (A → ℕ) → A → A → Bool
   lesser key x y = ltb (key x) (key y)
 
@@ -37,5 +37,6 @@ module _ {A : Type 0} where
   abbrev pub keyed : ℕ → (A → Bool) → (A → ℕ) → A → ℕ
   keyed none test key x = cond (test x) (key x) none
 
+  -- an ordering: nothing goes before, so that place alone counts
   abbrev pub never : A → A → Bool
   never x y = false

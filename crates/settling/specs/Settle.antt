@@ -53,9 +53,11 @@ nextEase k l = easeAt k l (lowest (easing k) l)
 
 -- ---- "Then repeat: take the first sliding entry by entry number that is marketable (MMRP) or not at its resting prices." ----
 
+-- an entry's aims, before these away prices and in this book
 abbrev pub aimsIn : Market → List Entry → Entry → Prices
 aimsIn k l e = aims (k .m) (e .kind) (e .sell) (e .limit) (away k (e .sell)) (contra (e .sell) l)
 
+-- an entry stirs: it slides, and "is marketable (MMRP) or not at its resting prices"
 abbrev pub restlessAs : Market → ℕ → Entry → Pricing → Bool
 restlessAs k c e Fixed = false
 restlessAs k c e Dark = false

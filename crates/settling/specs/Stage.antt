@@ -1,6 +1,6 @@
 -- A stage of the handler takes the book, the lent report room and the number of reports in it so far, and gives the book back; its definition is a run,
 -- the entries that then rest and its reports in their order. These records say for every stage what it asks and what it ensures.
--- No rule of document 01 stands here, only words for contracts.
+-- No rule of document 01 stands here, only words for contracts; the rules use one of them, `andThen`.
 -- Assumes nothing.
 use Prim.Native.Nat.{ℕ, _+_, _*_, _≤_}
 use mathlib.Core.Path.{_≡_}
