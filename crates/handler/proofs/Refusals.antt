@@ -19,7 +19,7 @@ use Rattle.series.specs.Series.{soundSeries}
 use Rattle.handler.specs.declared.Ask.{Ask}
 use Rattle.handler.specs.Asked.{askOf}
 use Rattle.handler.specs.Refuse.{badParty, badPrice, badQuantity, notOpen, isBlocked, isFull, isSpent, isMissing, firstHolding, refusalOf}
-use Rattle.handler.specs.Handle.{Handled, refused, accepted, heard, handled}
+use Rattle.handler.specs.Handle.{firstOf, refusedOr, Handled, refused, accepted, heard, handled}
 
 -- the message unpacks to no event; a test is put to what an event asks
 abbrev pub isNothing : Option Event → Bool
@@ -84,7 +84,7 @@ module _ (s : Series) (message room : List ℕ) where
       judge e true q = sym (eqb-true (refusalOf s (askOf e)) 0 q)
       judge e false q = refl
 
-      by : (b c : Bool) (u : Option Event) → (cond b (refused 10 s room) (cond c (heard s room u) (refused 11 s room))) .answer .refusal
+      by : (b c : Bool) (u : Option Event) → refusedOr (firstOf b 10 (not c) 11) s room (heard s room u) .answer .refusal
           ≡ cond b 10 (cond (not c) 11 (firstHolding (drop 2 (table s u room))))
       by true c u = refl
       by false false u = refl
@@ -122,8 +122,8 @@ refusals-keep s message room h = by (ltb (length room) 31920) (soundSeries s) (u
     judge e true k = absurd (k refl)
     judge e false k = same (refusalOf s (askOf e))
 
-    by : (b c : Bool) (u : Option Event) → ((cond b (refused 10 s room) (cond c (heard s room u) (refused 11 s room))) .answer .refusal ≡ 0 → ⊥)
-        → Unchanged s room (cond b (refused 10 s room) (cond c (heard s room u) (refused 11 s room)))
+    by : (b c : Bool) (u : Option Event) → (refusedOr (firstOf b 10 (not c) 11) s room (heard s room u) .answer .refusal ≡ 0 → ⊥)
+        → Unchanged s room (refusedOr (firstOf b 10 (not c) 11) s room (heard s room u))
     by true c u k = same 10
     by false false u k = same 11
     by false true none k = same 1

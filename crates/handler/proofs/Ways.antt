@@ -19,7 +19,7 @@ use Rattle.handler.specs.declared.Answer.{Answer}
 use Rattle.handler.specs.Asked.{askOf}
 use Rattle.handler.specs.Refuse.{refusalOf}
 use Rattle.handler.specs.Acts.{Admits}
-use Rattle.handler.specs.Handle.{firstOf, beforeReading, answered, refused, accepted, judged, heard, handled}
+use Rattle.handler.specs.Handle.{firstOf, beforeReading, answered, refused, refusedOr, accepted, judged, heard, handled}
 
 module _ (s : Series) (message room : List ℕ) where
   module _ (space : 31920 ≤ length room) where
@@ -51,13 +51,7 @@ module _ (s : Series) (message room : List ℕ) where
 pub refused-early : (s : Series) (message room : List ℕ) → (beforeReading (length room) (soundSeries s) ≡ 0 → ⊥)
     → handled s message room ≡ refused (beforeReading (length room) (soundSeries s)) s room
 unfolding handled
-refused-early s message room h = by (ltb (length room) 31920) (soundSeries s) h
-  where
-    by : (b c : Bool) → (firstOf b 10 (not c) 11 ≡ 0 → ⊥)
-        → cond b (refused 10 s room) (cond c (heard s room (unpackOf messages message)) (refused 11 s room)) ≡ refused (firstOf b 10 (not c) 11) s room
-    by true c k = refl
-    by false false k = refl
-    by false true k = absurd (k refl)
+refused-early s message room h = rw (ne-eqb (beforeReading (length room) (soundSeries s)) 0 h) refl
 
 pub none-early : (space : ℕ) (sound : Bool) → beforeReading space sound ≡ 0 → (31920 ≤ space) × (sound ≡ true)
 none-early space sound h = by (ltb space 31920) refl sound refl h
@@ -113,7 +107,7 @@ module _ (s : Series) (message room : List ℕ) where
       judge n g e r false q k = absurd (eqb-false (refusalOf s (askOf e)) 0 q k)
 
       by : (b : Bool) → ltb (length room) 31920 ≡ b → (c : Bool) → soundSeries s ≡ c → (u : Option Event) → unpackOf messages message ≡ u
-          → (cond b (refused 10 s room) (cond c (heard s room u) (refused 11 s room))) .answer .refusal ≡ 0 → Accepting s message room
+          → refusedOr (firstOf b 10 (not c) 11) s room (heard s room u) .answer .refusal ≡ 0 → Accepting s message room
       by true p c g u r k = never-0 10 (omega arith) k
       by false p false g u r k = never-0 11 (omega arith) k
       by false p true g none r k = never-0 1 (omega arith) k

@@ -38,15 +38,18 @@ accepted s a room = record {
   room = written room 0 (done (s .terms) a (entriesOf (s .book)) .records);
 }
 
+-- the refusal, if there is one, and else what comes next
+abbrev pub refusedOr : ℕ → Series → List ℕ → Handled → Handled
+refusedOr why s room next = cond (eqb why 0) next (refused why s room)
+
 abbrev pub judged : Series → Ask → List ℕ → ℕ → Handled
-judged s a room why = cond (eqb why 0) (accepted s a room) (refused why s room)
+judged s a room why = refusedOr why s room (accepted s a room)
 
 -- "A message that unpacks to no event stops there with refusal 1."
 abbrev pub heard : Series → List ℕ → Option Event → Handled
 heard s room none = refused nothing s room
 heard s room (some e) = judged s (askOf e) room (refusalOf s (askOf e))
 
--- the two refusals before the message is read, as one number, for the contract of the code that asks them; `handled` says the same for itself:
 -- the first of two refusals whose test holds; 0, if neither does
 abbrev pub firstOf : Bool → ℕ → Bool → ℕ → ℕ
 firstOf one number other next = cond one number (cond other next 0)
@@ -57,9 +60,7 @@ beforeReading space sound = firstOf (ltb space 31920) 10 (not sound) 11
 
 -- WHAT IS ANSWERED: first 10, then 11, then the message is read
 unfoldable pub handled : Series → List ℕ → List ℕ → Handled
-handled s message room =
-    cond (ltb (length room) 31920) (refused 10 s room)
-    (cond (soundSeries s) (heard s room (unpackOf messages message)) (refused 11 s room))
+handled s message room = refusedOr (beforeReading (length room) (soundSeries s)) s room (heard s room (unpackOf messages message))
 
 -- "A message in a long run is judged where it stands in the run"
 abbrev pub handledAt : Series → List ℕ → ℕ → List ℕ → Handled
