@@ -1,5 +1,5 @@
--- What one pass over a book answers: whether the book is sound, and what the pass has seen on its way: best prices, displays, who has a quote. So far the test
--- of a series uses the verdict and whether a quote rests (`ok`, `quoted`), and nothing uses the others.
+-- What one pass over a book answers: whether the book is sound, and what the pass has seen on its way: best prices, displays, who has a quote. The handler asks for
+-- them where document 01 speaks of C, of NBO and NBB, and of the quote that another replaces.
 -- Assumes nothing.
 use Prim.Native.Nat.{ℕ, _+_, _≤_}
 use mathlib.Core.Path.{_≡_}

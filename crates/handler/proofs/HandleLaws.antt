@@ -6,14 +6,14 @@ use mathlib.Core.Bool.{Bool, true, false, cond, not, _&&_, _||_}
 use mathlib.Core.List.{List}
 use native.Mathlib.Omega.{arith}
 use lib.Dec.{eqb, leb}
-use lib.ListN.{length}
+use lib.ListN.{length, getD}
 use borrow.Author.Tests.{leb-true, leb-false, le-leb, lt-leb, eq-eqb, ne-eqb, eqb-true, not-false}
 use Rattle.lists.specs.Choose.{Found, nowhere, found}
 use Rattle.lists.specs.Tests.{any}
 use Rattle.lists.proofs.Bools.{clash, and-left, and-right}
 use Rattle.checking.specs.declared.Check.{Check}
-use Rattle.checking.specs.Summary.{isFound}
-use Rattle.checking.proofs.SummaryLaws.{any-quote, faced-contra, shown-national}
+use Rattle.checking.specs.Summary.{seat, isFound, Summary}
+use Rattle.checking.proofs.SummaryLaws.{any-quote, seat-tells, faced-contra, shown-national}
 use Rattle.book.specs.declared.Entry.{Entry}
 use Rattle.book.specs.declared.Book.{Book}
 use Rattle.book.specs.Shape.{entriesOf, WellFormed}
@@ -61,6 +61,12 @@ any-party a k h = by (makersOnly a) refl (leb (a .kind) 7) refl h
 pub quote-maker : (a : Ask) → a .kind ≤ 4 → makersOnly a ≡ true
 quote-maker a k = rw (le-leb (a .kind) 4 k)
 
+pub quote-party : (a : Ask) → a .kind ≤ 4 → badParty a ≡ false → (1 ≤ a .party) × (a .party ≤ 16)
+quote-party a k h = maker-party a (quote-maker a k) h
+
+pub cancel-maker : (a : Ask) → a .kind ≡ 8 → makersOnly a ≡ true
+cancel-maker a k = rw k
+
 pub enable-maker : (a : Ask) → a .kind ≡ 12 → makersOnly a ≡ true
 enable-maker a k = rw k
 
@@ -91,6 +97,11 @@ pub full-quote : (l : List Entry) (a : Ask) → 64 ≤ length l → a .kind ≤ 
 full-quote l a h j =
     rw (le-leb (a .kind) 6 (omega arith), le-leb 64 (length l) h, le-leb (a .kind) 4 j, any-quote (a .party) (a .sell) l)
     (unfound (quoteIn (a .party) (a .sell) l))
+
+-- a maker with an empty seat has no quote
+pub seat-empty : {l : List Entry} {check : Check} → Summary l check → (party : ℕ) (s : Bool) → 1 ≤ party → party ≤ 16
+    → not (getD (check .seats) (seat party s) false) ≡ isNowhere (quoteIn party s l)
+seat-empty {l} h party s low high = ap not (seat-tells h party s low high) ∙ sym (unfound (quoteIn party s l))
 
 -- ---- the series' numbers ----
 

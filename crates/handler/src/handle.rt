@@ -223,7 +223,7 @@ fn answer_event(series: Series, check: Check, event: Event, room: &mut [u8]) -> 
     ensures { λ r. ⌜ answered r (now (room .exit)) ≡ judged series (askOf event) (now (room .entry)) (refusalOf series (askOf event)) ⌝ }
 {
     let a = ask_of(event);
-    let why = refusal_of(series, a);
+    let why = refusal_of(series, check, a);
     if why != 0 {
         return refused(series, why);
     }

@@ -3,7 +3,8 @@ use crate::Ask;
 use book::Book;
 use book::Rank;
 use book::find::find_entry;
-use book::find::find_quote;
+use checking::Check;
+use checking::figures::has_quote;
 use prices::step::is_given;
 use prices::step::is_legal;
 use series::Series;
@@ -13,6 +14,7 @@ ghost use lib.ListN.{length};
 ghost use Rattle.prices.specs.Step.{mpv};
 ghost use Rattle.book.specs.Shape.{entriesOf, WellFormed};
 ghost use Rattle.sound.specs.Sound.{between};
+ghost use Rattle.checking.specs.Summary.{Summary};
 ghost use Rattle.handler.specs.Refuse.{makersOnly, badParty, badPrice, badQuantity, notOpen, isBlocked, isFull, isSpent, isMissing, goneAt, refusalOf};
 
 fn is_between(low: u32, high: u32, x: u32) -> bool
@@ -100,9 +102,10 @@ fn is_gone(rank: Rank) -> bool
 }
 
 // 7: 64 entries rest, not counting the quote that this one replaces.
-fn is_full(b: Book, a: Ask) -> bool
+fn is_full(b: Book, check: Check, a: Ask) -> bool
     requires { ⌜ badParty a ≡ false ⌝ }
     requires { ⌜ WellFormed b ⌝ }
+    requires { ⌜ Summary (entriesOf b) check ⌝ }
     ensures { λ r. ⌜ r ≡ isFull (entriesOf b) a ⌝ }
 {
     if 6 < a.kind {
@@ -115,7 +118,7 @@ fn is_full(b: Book, a: Ask) -> bool
         return true;
     }
     let party = a.party as u8;
-    is_gone(find_quote(b, party, a.sell))
+    !has_quote(check, party, a.sell)
 }
 
 // 9: the last entry number has been given.
@@ -126,9 +129,10 @@ fn is_spent(given: u32, a: Ask) -> bool
 }
 
 // 8: no such entry of that party, or no such quote.
-fn is_missing(b: Book, a: Ask) -> bool
+fn is_missing(b: Book, check: Check, a: Ask) -> bool
     requires { ⌜ badParty a ≡ false ⌝ }
     requires { ⌜ WellFormed b ⌝ }
+    requires { ⌜ Summary (entriesOf b) check ⌝ }
     ensures { λ r. ⌜ r ≡ isMissing (entriesOf b) a ⌝ }
 {
     if a.kind == 7 {
@@ -137,16 +141,17 @@ fn is_missing(b: Book, a: Ask) -> bool
     }
     if a.kind == 8 {
         let party = a.party as u8;
-        return is_gone(find_quote(b, party, a.sell));
+        return !has_quote(check, party, a.sell);
     }
     false
 }
 
 // The number of the first test that holds, 0 where none does.
-pub fn refusal_of(s: Series, a: Ask) -> u32
+pub fn refusal_of(s: Series, check: Check, a: Ask) -> u32
     requires { ⌜ mpv (s .terms .m) ≡ true ⌝ }
     requires { ⌜ WellFormed (s .book) ⌝ }
     requires { ⌜ length (s .blocked) ≡ 16 ⌝ }
+    requires { ⌜ Summary (entriesOf (s .book)) check ⌝ }
     ensures { λ r. ⌜ r ≡ refusalOf s a ⌝ }
 {
     let t = s.terms;
@@ -166,13 +171,13 @@ pub fn refusal_of(s: Series, a: Ask) -> u32
     if is_blocked(s, a) {
         return 6;
     }
-    if is_full(b, a) {
+    if is_full(b, check, a) {
         return 7;
     }
     if is_spent(t.given, a) {
         return 9;
     }
-    if is_missing(b, a) {
+    if is_missing(b, check, a) {
         return 8;
     }
     0

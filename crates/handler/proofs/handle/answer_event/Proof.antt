@@ -10,7 +10,7 @@ ask-of-requires : tie.Need-ask-of-requires
 ask-of-requires c κs = search needs
 
 refusal-of-requires : tie.Need-refusal-of-requires
-refusal-of-requires c κs = (series-facts (c .before .before .args .series) (c .before .before .pre .0 .sound) .step, (c .before .before .pre .0 .well, c .before .before .pre .0 .blocks))
+refusal-of-requires c κs = (series-facts (c .before .before .args .series) (c .before .before .pre .0 .sound) .step, (c .before .before .pre .0 .well, (c .before .before .pre .0 .blocks, c .before .before .pre .0 .seen)))
 
 refused-requires : tie.Need-refused-requires
 refused-requires c κs = search needs

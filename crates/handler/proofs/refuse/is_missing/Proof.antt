@@ -2,8 +2,9 @@ use borrow.Author.Tests.{le-leb, lt-leb, eq-eqb, ne-eqb, not-true, not-false}
 use native.Mathlib.Omega.{arith}
 use mathlib.Core.Path.{sym, ap, _∙_}
 use Rattle.book.specs.Shape.{entriesOf}
-use Rattle.book.specs.Look.{quoteIn, entryOf}
-use Rattle.handler.proofs.HandleLaws.{any-party, gone}
+use mathlib.Core.Bool.{not}
+use Rattle.book.specs.Look.{entryOf}
+use Rattle.handler.proofs.HandleLaws.{any-party, maker-party, cancel-maker, seat-empty, gone}
 use Rattle.handler.specs.Refuse.{goneAt}
 use borrow.Author.Needs.{needs}
 use Rattle.handler.proofs.refuse.is_missing.Statement.{statement}
@@ -22,16 +23,16 @@ returns : tie.Need-returns
 returns c = rw (c .before .before .before .if1 .taken) (c .is-gone .ensures ∙ ap goneAt (c .before .find-entry .ensures) ∙ gone (entryOf (c .before .before .before .before .before .args .a .party) (c .before .before .before .before .before .args .a .entry) (entriesOf (c .before .before .before .before .before .args .b))))
 
 cast-party-2 : tie.Need-cast-party-2
-cast-party-2 c = omega (arith, any-party (c .before .before .before .before .before .args .a) (omega (arith, c .before .if2 .taken)) (c .before .before .before .before .before .pre .0) .1)
+cast-party-2 c = let s = c .before .before .before .before .before in omega (arith, maker-party (s .args .a) (cancel-maker (s .args .a) (c .before .if2 .taken)) (s .pre .0) .1)
 
-find-quote-requires : tie.Need-find-quote-requires
-find-quote-requires c κs = search needs
-
-is-gone-requires-2 : tie.Need-is-gone-requires-2
-is-gone-requires-2 c κs = search needs
+has-quote-requires : tie.Need-has-quote-requires
+has-quote-requires c κs = let s = c .before .before .before .before .before in maker-party (s .args .a) (cancel-maker (s .args .a) (c .before .if2 .taken)) (s .pre .0) .1
 
 returns-2 : tie.Need-returns-2
-returns-2 c = rw (c .before .before .before .if2 .taken) (c .is-gone2 .ensures ∙ ap goneAt (c .before .find-quote .ensures) ∙ gone (quoteIn (c .before .before .before .before .before .before .before .args .a .party) (c .before .before .before .before .before .before .before .args .a .sell) (entriesOf (c .before .before .before .before .before .before .before .args .b))))
+returns-2 c =
+    let s = c .before .before .before .before .before .before in
+    let p = maker-party (s .args .a) (cancel-maker (s .args .a) (c .before .before .if2 .taken)) (s .pre .0) in
+    rw (c .before .before .if2 .taken) (ap not (c .has-quote .ensures) ∙ seat-empty (s .pre .1 .1) (s .args .a .party) (s .args .a .sell) (p .0) (p .1))
 
 returns-3 : tie.Need-returns-3
 returns-3 c = rw (ne-eqb _ _ (c .before .before .if1 .left), ne-eqb _ _ (c .if2 .left))
@@ -45,7 +46,6 @@ is-missing-spec =
     is-gone-requires
     returns
     cast-party-2
-    find-quote-requires
-    is-gone-requires-2
+    has-quote-requires
     returns-2
     returns-3)

@@ -33,14 +33,14 @@ unfolding refusalOf
 returns-4 c = rw (sym (c .before .before .before .before .before .before .before .is-bad-party .ensures) ∙ c .before .before .before .before .before .before .if1 .left, sym (c .before .before .before .before .before .is-bad-price .ensures) ∙ c .before .before .before .before .if2 .left, sym (c .before .before .before .is-bad-quantity .ensures) ∙ c .before .before .if3 .left, sym (c .before .is-not-open .ensures) ∙ c .if4 .taken)
 
 is-blocked-requires : tie.Need-is-blocked-requires
-is-blocked-requires c κs = (sym (c .before .before .before .before .before .before .before .is-bad-party .ensures) ∙ c .before .before .before .before .before .before .if1 .left, c .before .before .before .before .before .before .before .before .before .before .pre .1 .1)
+is-blocked-requires c κs = (sym (c .before .before .before .before .before .before .before .is-bad-party .ensures) ∙ c .before .before .before .before .before .before .if1 .left, c .before .before .before .before .before .before .before .before .before .before .pre .1 .1 .0)
 
 returns-5 : tie.Need-returns-5
 unfolding refusalOf
 returns-5 c = rw (sym (c .before .before .before .before .before .before .before .before .before .is-bad-party .ensures) ∙ c .before .before .before .before .before .before .before .before .if1 .left, sym (c .before .before .before .before .before .before .before .is-bad-price .ensures) ∙ c .before .before .before .before .before .before .if2 .left, sym (c .before .before .before .before .before .is-bad-quantity .ensures) ∙ c .before .before .before .before .if3 .left, sym (c .before .before .before .is-not-open .ensures) ∙ c .before .before .if4 .left, sym (c .before .is-blocked .ensures) ∙ c .if5 .taken)
 
 is-full-requires : tie.Need-is-full-requires
-is-full-requires c κs = (sym (c .before .before .before .before .before .before .before .before .before .is-bad-party .ensures) ∙ c .before .before .before .before .before .before .before .before .if1 .left, c .before .before .before .before .before .before .before .before .before .before .before .before .pre .1 .0)
+is-full-requires c κs = (sym (c .before .before .before .before .before .before .before .before .before .is-bad-party .ensures) ∙ c .before .before .before .before .before .before .before .before .if1 .left, (c .before .before .before .before .before .before .before .before .before .before .before .before .pre .1 .0, c .before .before .before .before .before .before .before .before .before .before .before .before .pre .1 .1 .1))
 
 returns-6 : tie.Need-returns-6
 unfolding refusalOf
@@ -54,7 +54,7 @@ unfolding refusalOf
 returns-7 c = rw (sym (c .before .before .before .before .before .before .before .before .before .before .before .before .before .is-bad-party .ensures) ∙ c .before .before .before .before .before .before .before .before .before .before .before .before .if1 .left, sym (c .before .before .before .before .before .before .before .before .before .before .before .is-bad-price .ensures) ∙ c .before .before .before .before .before .before .before .before .before .before .if2 .left, sym (c .before .before .before .before .before .before .before .before .before .is-bad-quantity .ensures) ∙ c .before .before .before .before .before .before .before .before .if3 .left, sym (c .before .before .before .before .before .before .before .is-not-open .ensures) ∙ c .before .before .before .before .before .before .if4 .left, sym (c .before .before .before .before .before .is-blocked .ensures) ∙ c .before .before .before .before .if5 .left, sym (c .before .before .before .is-full .ensures) ∙ c .before .before .if6 .left, sym (c .before .is-spent .ensures) ∙ c .if7 .taken)
 
 is-missing-requires : tie.Need-is-missing-requires
-is-missing-requires c κs = (sym (c .before .before .before .before .before .before .before .before .before .before .before .before .before .is-bad-party .ensures) ∙ c .before .before .before .before .before .before .before .before .before .before .before .before .if1 .left, c .before .before .before .before .before .before .before .before .before .before .before .before .before .before .before .before .pre .1 .0)
+is-missing-requires c κs = (sym (c .before .before .before .before .before .before .before .before .before .before .before .before .before .is-bad-party .ensures) ∙ c .before .before .before .before .before .before .before .before .before .before .before .before .if1 .left, (c .before .before .before .before .before .before .before .before .before .before .before .before .before .before .before .before .pre .1 .0, c .before .before .before .before .before .before .before .before .before .before .before .before .before .before .before .before .pre .1 .1 .1))
 
 returns-8 : tie.Need-returns-8
 unfolding refusalOf
