@@ -1,6 +1,6 @@
 -- THE RULES OF ARRIVAL, FOR THE CLASS: statements about the definition `arrived`, one for each thing that students get wrong.
 -- Assumes nothing.
-use Prim.Native.Nat.{ℕ, zero, suc, _+_, _≤_}
+use Prim.Native.Nat.{ℕ, zero, suc, _≤_}
 use mathlib.Core.Path.{_≡_, refl, sym, subst, ap, _∙_}
 use mathlib.Core.Bool.{Bool, true, false, not, _||_}
 use mathlib.Core.List.{List, _∷_, _++_}

@@ -66,12 +66,6 @@ module _ (why : ℕ) (l : List Entry) (test : Entry → Bool) (key : Entry → �
       rests-without l i j x h
       (λ e. clash (ap test (at-same l j x y (subst (λ (n : ℕ). At l n x) e h) (c .there)) ∙ c .passes) t)
 
--- nobody comes
-pub cut-from : (why : ℕ) (l : List Entry) (f : Found Entry) (i : ℕ) (x : Entry) → At (cut why l f .final) i x → Rests l x
-unfolding cut still
-cut-from why l nowhere i x h = record { place = i; there = h }
-cut-from why l (found j y) i x h = rests-back l i j x h
-
 -- ---- a maker's two quotes ----
 
 pub quote-leaves : (why party : ℕ) (s : Bool) (l : List Entry) (i : ℕ) (x : Entry) → At l i x → quoteOf party s x ≡ false

@@ -17,5 +17,3 @@ pub mod ForTheClass
 pub mod EnterLaws
 pub mod EnteredLaws
 pub mod SweepingLaws
-pub mod TurnLaws
-pub mod ThenSettles

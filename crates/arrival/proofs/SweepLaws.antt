@@ -11,7 +11,6 @@ use Rattle.lists.specs.Places.{At, without}
 use Rattle.lists.specs.Tests.{All, count}
 use Rattle.lists.specs.Choose.{Found, nowhere, found}
 use Rattle.lists.specs.Run.{Step, stop, go, Complete, done, then, still}
-use Rattle.lists.proofs.PlaceLaws.{at-inside, length-without}
 use Rattle.lists.proofs.TestLaws.{all-zip, all-at, all-of, all-without, count-le, count-without, none-count}
 use Rattle.lists.proofs.ChooseLaws.{Tells}
 use Rattle.lists.proofs.RunLaws.{Falls, few, run-stop, ran-complete, complete-stop, complete-keeps, never-goes, never-stops, same-step}
@@ -111,12 +110,6 @@ module _ (phase : ℕ) (l : List Entry) where
   unfolding sweep
   sweep-few = omega (arith, few (nextSweep phase) (count (swept phase)) l, count-le (swept phase) l)
 
-  pub sweep-size : length (sweep phase l .final) ≤ length l
-  sweep-size = complete-keeps (λ (t : List Entry). length t ≤ length l) (λ s r t h g. shorter (sweep-step phase s g) h) (omega arith) sweep-run
-    where
-      shorter : {s t : List Entry} {r : Report} → SweepStep phase s r t → length s ≤ length l → length t ≤ length l
-      shorter {s} (sweeps {i = i} {e = e} c) h = omega (arith, length-without i s (at-inside s i e (c .there)))
-
   -- whatever is true of each entry stays true of those left
   pub sweep-all : (P : Entry → Type 0) → All P l → All P (sweep phase l .final)
   sweep-all P a = complete-keeps (All P) (λ s r t h g. more (sweep-step phase s g) h) a sweep-run
@@ -167,12 +160,9 @@ sweep-open l = run-stop (nextSweep 1) (count (swept 1)) l (at (nextSweep 1 l) re
         none : {r : Report} {t : List Entry} → SweepStep 1 l r t → nextSweep 1 l ≡ stop
         none (sweeps c) = let z : false ≡ true = c .passes in let y : _≡_ {A = ℕ} 0 1 = cc in absurd (omega arith)
 
--- "phase 2 every quote": no quote is left, and all orders as they stood
+-- "phase 2 every quote": no quote is left; the orders stay as they stood (`sweep-leaves`)
 pub sweep-halted : (l : List Entry) → All (λ (x : Entry). quote x ≡ false) (sweep 2 l .final)
 sweep-halted l = sweep-stop 2 (sweep 2 l .final) (complete-stop (sweep-run 2 l))
-
-pub sweep-orders : (l : List Entry) → sweep 2 l .final ≡ spared quote l
-sweep-orders l = sweep-leaves 2 l
 
 -- ---- in a sound book ----
 

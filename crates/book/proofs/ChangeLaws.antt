@@ -16,9 +16,9 @@ use Rattle.lists.proofs.LoopLaws.{Closing}
 use Rattle.book.specs.declared.Entry.{Entry}
 use Rattle.book.specs.declared.Book.{Book}
 use Rattle.book.specs.Entries.{lessened}
-use Rattle.book.specs.Shape.{zeroEntry, entriesOf, bookOf, WellFormed, Space, Place, TwoPlaces}
+use Rattle.book.specs.Shape.{zeroEntry, entriesOf, bookOf, WellFormed, Space, Place}
 use Rattle.book.specs.Change.{post, hit, hitBoth}
-use Rattle.book.proofs.ShapeLaws.{same-book, length-entries, book-of-entries, entries-of-book, fits-64, entry-at, Holds, holds}
+use Rattle.book.proofs.ShapeLaws.{same-book, length-entries, fits-64, entry-at}
 
 -- ---- posting ----
 

@@ -1,7 +1,7 @@
 -- What the book's operations do to the list of its entries; `without` and `requeue` are those of crate lists.
 -- Assumes nothing.
 use Prim.Native.Nat.{ℕ, zero, suc}
-use mathlib.Core.Bool.{Bool, cond}
+use mathlib.Core.Bool.{cond}
 use mathlib.Core.List.{List, [], _∷_, _++_}
 use lib.Dec.{leb, ltb}
 use Rattle.book.specs.declared.Entry.{Entry}

@@ -3,7 +3,7 @@
 use Prim.Native.Nat.{ℕ, _+_, _-_, _*_}
 use mathlib.Core.Bool.{Bool, true, false, cond, not, _&&_, _||_}
 use mathlib.Core.List.{List}
-use lib.Dec.{eqb, ltb}
+use lib.Dec.{ltb}
 use Rattle.prices.specs.Side.{reaches, nearer}
 use Rattle.lists.specs.Choose.{scan, Found, nowhere, found, first, lesser, never}
 use Rattle.lists.specs.Tests.{any}

@@ -2,9 +2,7 @@
 use crate::Entry;
 use crate::Pricing;
 ghost use mathlib.Core.Path.{_≡_};
-ghost use Prim.Native.Nat.{_-_};
-ghost use Rattle.prices.specs.declared.Prices.{Prices};
-ghost use Rattle.book.specs.Entries.{display, displayed, isSliding, quote, against, own, quoteOf, lessened, priced};
+ghost use Rattle.book.specs.Entries.{display, displayed, isSliding, quote, against, own, quoteOf, priced};
 ghost use Rattle.book.specs.Shape.{zeroEntry};
 
 // What stands in an unused place.

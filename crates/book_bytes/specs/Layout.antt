@@ -1,7 +1,7 @@
 -- A book in bytes, as the test programs' tables have it.
 -- Assumes nothing.
 use Prim.Native.Nat.{ℕ, _+_, _*_}
-use mathlib.Core.Bool.{Bool, cond}
+use mathlib.Core.Bool.{cond}
 use mathlib.Core.List.{List}
 use lib.Dec.{eqb}
 use Rattle.reading.specs.Number.{byteAt, numberAt}

@@ -6,9 +6,8 @@ use mathlib.Core.Bool.{Bool, true, false, cond, not, _&&_, _||_}
 use native.Mathlib.Omega.{arith}
 use borrow.Author.Tests.{leb-true, le-leb, eqb-true}
 use lib.Dec.{eqb, leb}
-use Rattle.prices.specs.Step.{mpv, legal}
+use Rattle.prices.specs.Step.{mpv, legal, back}
 use Rattle.prices.specs.Side.{reaches}
-use Rattle.prices.specs.Step.{back}
 use Rattle.prices.specs.Aims.{sliding}
 use Rattle.prices.specs.Rest.{slides}
 use Rattle.prices.proofs.StepLaws.{is-mpv, is-legal, positive}

@@ -1,6 +1,6 @@
 -- ONE SEAT A MAKER AND SIDE decides "one quote at most per maker and side".
 -- Assumes nothing.
-use Prim.Native.Nat.{ℕ, zero, suc, _+_, _≤_, _<_}
+use Prim.Native.Nat.{ℕ, zero, suc, _≤_, _<_}
 use mathlib.Core.Path.{_≡_, refl, sym, ap, _∙_}
 use mathlib.Core.Bool.{Bool, true, false, cond, not, _&&_, _||_, Bool·beq, or-false, or-true}
 use mathlib.Core.List.{List, [], _∷_, _++_}

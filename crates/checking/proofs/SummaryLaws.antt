@@ -1,8 +1,9 @@
--- What callers use of the answer: a sound book's facts, who has a quote, and that there is only one answer.
+-- The answer in the words of the rules: who has a quote, the price that a side faces, NBO and NBB; and that there is only one answer. So far nothing above cites
+-- `seat-tells`, `faced-contra` and `shown-national`: they are for a stage that takes its prices from the answer and does not look for them again.
 -- Assumes nothing.
 use Prim.Native.Nat.{ℕ, zero, suc, _+_, _-_, _≤_, _<_}
 use mathlib.Core.Path.{_≡_, refl, sym, ap, _∙_}
-use mathlib.Core.Bool.{Bool, true, false, _&&_, _||_}
+use mathlib.Core.Bool.{Bool, true, false, _||_}
 use mathlib.Core.List.{List, [], _∷_}
 use native.Mathlib.Omega.{arith}
 use borrow.Author.Tests.{leb-true, leb-false, eqb-true, eqb-false}
@@ -10,22 +11,17 @@ use lib.Dec.{eqb, leb}
 use lib.ListN.{getD}
 use lib.Seq.{ext-getD}
 use Rattle.prices.specs.Side.{nearer}
-use Rattle.prices.specs.Step.{mpv}
 use Rattle.lists.specs.Tests.{any}
 use Rattle.lists.specs.Choose.{scan, nowhere, consider, choosing, first, never}
-use Rattle.lists.proofs.Bools.{and-left, and-right}
 use Rattle.lists.proofs.ChooseLaws.{found-stays}
 use Rattle.book.specs.declared.Entry.{Entry}
 use Rattle.book.specs.declared.Book.{Book}
 use Rattle.book.specs.Entries.{quoteOf, display}
 use Rattle.book.specs.Shape.{entriesOf}
 use Rattle.book.specs.Look.{quoteIn, contra, national}
-use Rattle.sound.specs.Sound.{soundBook}
 use Rattle.checking.specs.declared.Check.{Check}
-use Rattle.checking.specs.SoundBook.{SoundBook}
 use Rattle.checking.specs.Summary.{seat, Seated, isFound, faced, facedShown, Summary, Checked}
 use Rattle.checking.proofs.BestLaws.{nearest-away}
-use Rattle.checking.proofs.Decides.{sound-decides}
 
 -- ---- a maker has a quote just if a search finds it ----
 
@@ -58,22 +54,6 @@ module _ {l : List Entry} {r : Check} (h : Summary l r) where
   pub shown-national : (s : Bool) (a : ℕ) → nearer s a (facedShown r s) ≡ national s a l
   shown-national false a = ap (nearer false a) (h .shownoffer) ∙ sym (nearest-away display false a l)
   shown-national true a = ap (nearer true a) (h .shownbid) ∙ sym (nearest-away display true a l)
-
--- ---- what `ok` means ----
-
-module _ {m given : ℕ} {b : Book} {r : Check} (c : Checked m given b r) (ok : r .ok ≡ true) where
-  both : (mpv m && soundBook m given b) ≡ true
-  both = sym (c .verdict) ∙ ok
-
-  pub ok-step : mpv m ≡ true
-  ok-step = and-left (mpv m) (soundBook m given b) both
-
-  pub ok-sound : soundBook m given b ≡ true
-  ok-sound = and-right (mpv m) (soundBook m given b) both
-
-  -- in document 01's words
-  pub ok-facts : SoundBook m given b
-  ok-facts = sound-decides m given b .0 ok-sound
 
 -- ---- there is only one answer ----
 

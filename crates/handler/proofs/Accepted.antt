@@ -13,9 +13,8 @@ use Rattle.prices.specs.Step.{mpv, given}
 use Rattle.lists.specs.Run.{Ran, still}
 use Rattle.packing.specs.declared.report.Report.{Report}
 use Rattle.packing.specs.declared.report.Report.the-variants.{Noted}
-use Rattle.packing.specs.Room.{written, AllPack}
+use Rattle.packing.specs.Room.{AllPack}
 use Rattle.packing.proofs.ReportLaws.{noted-packs}
-use Rattle.packing.proofs.RoomLaws.{length-written}
 use Rattle.book.specs.declared.Entry.{Entry}
 use Rattle.book.specs.Entries.{quote}
 use Rattle.book.specs.Shape.{entriesOf}
@@ -200,20 +199,12 @@ module _ (s : Series) (a : Ask) (ok : Accepted s a) where
   -- ---- the room ----
 
   module _ (room : List ℕ) (space : 31920 ≤ length room) where
-    -- THE ROOM IS ENOUGH: for the whole, for the message's own part, and for settling behind it
+    -- THE ROOM IS ENOUGH: for the whole, and for the message's own part
     pub accepted-room : Roomy room 0 (done (s .terms) a (entriesOf (s .book)) .records)
     accepted-room = record { space = omega (arith, done-part .few); fit = done-part .fit }
 
     pub own-room : Roomy room 0 (own (s .terms) a (entriesOf (s .book)) .records)
     own-room = record { space = omega (arith, own-part .few); fit = own-part .fit }
-
-    pub settle-room : (room′ : List ℕ) (n′ : ℕ) → room′ ≡ written room 0 (own (s .terms) a (entriesOf (s .book)) .records)
-        → n′ ≡ length (own (s .terms) a (entriesOf (s .book)) .records)
-        → Roomy room′ n′ (settledIf (termsAfter (s .terms) a) (own (s .terms) a (entriesOf (s .book)) .final) .records)
-    settle-room room′ n′ e n = record {
-      space = omega (arith, own-part .few, settle-part .few, ap length e, length-written room 0 (own (s .terms) a (entriesOf (s .book)) .records));
-      fit = settle-part .fit;
-    }
 
 -- ACCEPTED MESSAGES GIVE ONLY SOUND STATES, whatever is handed in
 pub accepted-sound : (s : Series) (message room : List ℕ) → handled s message room .answer .refusal ≡ 0 → soundSeries (handled s message room .answer .series) ≡ true

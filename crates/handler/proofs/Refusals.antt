@@ -99,6 +99,7 @@ module _ (s : Series) (message room : List ℕ) where
       numbers =
           (omega arith, (omega arith, (omega arith, (omega arith, (omega arith, (omega arith, (omega arith, (omega arith, (omega arith, (omega arith, (omega arith, tt)))))))))))
 
+  -- so a message that no test refuses is accepted: refusing all is shut out
   pub none-accepted : All (λ (t : ℕ × Bool). t .1 ≡ false) (table s (unpackOf messages message) room) → handled s message room .answer .refusal ≡ 0
   none-accepted a = refusals-in-order ∙ none-first (table s (unpackOf messages message) room) a
 

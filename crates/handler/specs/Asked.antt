@@ -2,8 +2,8 @@
 -- No rule of document 01 stands here but its numbers of kinds, only words for the refusals and for contracts.
 -- Assumes nothing.
 use Prim.Native.Nat.{ℕ}
-use mathlib.Core.Bool.{Bool, true, false, _&&_, _||_}
-use lib.Dec.{eqb, leb}
+use mathlib.Core.Bool.{Bool, false}
+use lib.Dec.{leb}
 use Rattle.packing.specs.declared.message.Terms.{Terms}
 use Rattle.packing.specs.declared.message.Event.{Event}
 use Rattle.packing.specs.declared.message.Event.the-variants.{Plain, Mmlo, Mmalo, Mmrp, Displayed, Dark, CancelEntry, CancelQuote, Away, Underlying, Phase, Enable}

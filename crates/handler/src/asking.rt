@@ -5,7 +5,7 @@ use book::Pricing;
 use packing::message::Event;
 use packing::message::Terms;
 ghost use mathlib.Core.Path.{_≡_};
-ghost use Prim.Native.Nat.{_≤_, _<_};
+ghost use Prim.Native.Nat.{_≤_};
 ghost use Rattle.handler.specs.Asked.{entering, askOf};
 ghost use Rattle.handler.specs.Accept.{comer};
 

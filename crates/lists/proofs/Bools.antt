@@ -1,8 +1,8 @@
 -- Laws of Bool: what a test that came out true or false tells of its parts.
 -- Assumes nothing.
 use Prim.Native.Nat.{ℕ}
-use mathlib.Core.Path.{_≡_, refl, sym}
-use mathlib.Core.Bool.{Bool, true, false, cond, not, _&&_, _||_}
+use mathlib.Core.Path.{_≡_, refl}
+use mathlib.Core.Bool.{Bool, true, false, cond, _&&_, _||_}
 use native.Mathlib.Omega.{arith}
 
 -- nothing is both
@@ -27,13 +27,6 @@ or-false-left false b e = refl
 pub or-false-right : (a b : Bool) → (a || b) ≡ false → b ≡ false
 or-false-right true b e = clash refl e
 or-false-right false b e = e
-
-pub or-left : (a b : Bool) → a ≡ true → (a || b) ≡ true
-or-left a b p = rw p
-
-pub or-right : (a b : Bool) → b ≡ true → (a || b) ≡ true
-or-right true b p = refl
-or-right false b p = p
 
 -- what holds of both arms of a choice holds of the choice
 pub cond-either : {A : Type 0} (P : A → Type 0) (b : Bool) (x y : A) → (b ≡ true → P x) → (b ≡ false → P y) → P (cond b x y)

@@ -1,14 +1,14 @@
 -- What `first` finds, with no scan in it: the law that pins the place found, and that nothing else fits.
 -- Assumes nothing.
-use Prim.Native.Nat.{ℕ, suc, _+_, _≤_, _<_}
+use Prim.Native.Nat.{ℕ, _+_, _≤_, _<_}
 use mathlib.Core.Path.{_≡_, refl, sym, subst, ap, _∙_}
 use mathlib.Core.Bool.{Bool, true, false, cond}
-use mathlib.Core.Logic.{_⊎_, inl, inr, ⊎-elim}
+use mathlib.Core.Logic.{⊎-elim}
 use mathlib.Core.List.{List, [], _∷_, _++_, append-nil}
 use native.Mathlib.Numerals.{add-one}
 use native.Mathlib.Omega.{arith}
-use borrow.Author.Tests.{ltb-true, ltb-false, leb-true, leb-false}
-use lib.Dec.{ltb, leb}
+use borrow.Author.Tests.{ltb-true, ltb-false}
+use lib.Dec.{ltb}
 use lib.ListN.{length}
 use lib.Seq.{append-snoc}
 use Rattle.lists.specs.Places.{At}
@@ -55,7 +55,7 @@ module _ {A : Type 0} where
       go false e true f = absurd (omega (arith, a .earliest j y (b .there) (b .passes) (ltb-true j i f), b .least i x (a .there) (a .passes)))
       go false e false f = omega (arith, ltb-false i j e, ltb-false j i f)
 
-  -- and where one is chosen, it is not true that nobody passes
+  -- and where one is chosen, it is not true that nobody passes: only one answer tells
   pub chosen-some : {test : A → Bool} {key : A → ℕ} {l : List A} {i : ℕ} {x : A} → Chosen test key l i x → Nobody test l → ⊥
   chosen-some {i = i} {x = x} a n = clash (a .passes) (n .nobody i x (a .there))
 

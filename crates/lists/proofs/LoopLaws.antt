@@ -1,7 +1,7 @@
 -- Loops `while i < n` over the first n elements of an array. A loop's invariant is one equation, "what is left gives from here what the whole
 -- gives from the start", kept in a record with laws for the start, a turn and the end.
 -- Assumes nothing.
-use Prim.Native.Nat.{ℕ, _+_, _-_, _≤_, _<_}
+use Prim.Native.Nat.{ℕ, _+_, _≤_, _<_}
 use mathlib.Core.Path.{_≡_, refl, sym, ap, _∙_}
 use mathlib.Core.Bool.{Bool, true, false, cond, _&&_, _||_}
 use mathlib.Core.List.{List, [], _∷_}
@@ -11,7 +11,7 @@ use lib.ListN.{length, take, drop, getD, set, length-take, length-set, drop-of-l
 use lib.Seq.{drop-cons, getD-take, length-take-le, drop-set-lt, take-set-lt}
 use Rattle.lists.specs.Places.{without}
 use borrow.Author.Tests.{lt-ltb, le-ltb}
-use Rattle.lists.specs.Tests.{all, any, pairs}
+use Rattle.lists.specs.Tests.{all, any}
 use Rattle.lists.specs.Choose.{scan, Found, nowhere, found, consider, choosing, first, lesser, keyed, never}
 use Rattle.lists.proofs.PlaceLaws.{without-shift}
 use Rattle.lists.proofs.ChooseLaws.{found-stays}
@@ -117,15 +117,6 @@ module _ {A : Type 0} {none : ℕ} {test : A → Bool} {key : A → ℕ} {es : L
   unfolding first
   lower-done {k} {at} v h = rw (← scan-done (v .scanning) h) (v .held)
 
--- what is held tells whether anything was found, and where
-pub held-none : {A : Type 0} {none k at : ℕ} {key : A → ℕ} {f : Found A} → Held none key f k at → none ≤ k → f ≡ nowhere
-held-none nothing h = refl
-held-none (something l) h = absurd (omega arith)
-
-pub held-some : {A : Type 0} {none k at : ℕ} {key : A → ℕ} {f : Found A} → Held none key f k at → k < none → (x : A) × (f ≡ found at x)
-held-some nothing h = absurd (omega arith)
-held-some (something {x = x} l) h = (x, refl)
-
 -- ---- a loop that looks whether every element from a place on passes, and leaves at the first that does not ----
 
 module _ {A : Type 0} (test : A → Bool) (es : List A) (n from : ℕ) where
@@ -175,32 +166,6 @@ module _ {A : Type 0} (test : A → Bool) (es : List A) (n : ℕ) where
   unfolding any
   ask-none i v h = sym (ap (any test) (none-left es n i h)) ∙ v .left
 
--- ---- the same for every two: a turn has looked at all the pairs that start at i ----
-
-module _ {A : Type 0} (test : A → A → Bool) (es : List A) (n : ℕ) where
-  pub record Pairing (i : ℕ) : Type 0 where
-    pub within : i ≤ n
-    pub left : pairs test (drop i (take n es)) ≡ pairs test (take n es)
-
-  pub pair-start : Pairing 0
-  pair-start = record { within = omega arith; left = refl }
-
-  pair-here : (i : ℕ) (d : A) → Pairing i → n ≤ length es → i < n
-      → (all (test (getD es i d)) (drop (i + 1) (take n es)) && pairs test (drop (i + 1) (take n es))) ≡ pairs test (take n es)
-  unfolding pairs
-  pair-here i d v fits h = sym (ap (pairs test) (next-left es n i d fits h)) ∙ v .left
-
-  pub pair-past : (i : ℕ) (d : A) → Pairing i → n ≤ length es → i < n → all (test (getD es i d)) (drop (i + 1) (take n es)) ≡ true → Pairing (i + 1)
-  pair-past i d v fits h q = record { within = omega arith; left = rw q at (pair-here i d v fits h) }
-
-  pub pair-fail : (i : ℕ) (d : A) → Pairing i → n ≤ length es → i < n → all (test (getD es i d)) (drop (i + 1) (take n es)) ≡ false
-      → false ≡ pairs test (take n es)
-  pair-fail i d v fits h q = rw q at (pair-here i d v fits h)
-
-  pub pair-done : (i : ℕ) → Pairing i → n ≤ i → true ≡ pairs test (take n es)
-  unfolding pairs
-  pair-done i v h = sym (ap (pairs test) (none-left es n i h)) ∙ v .left
-
 -- ---- a loop that closes the gap at place i of the first n: taking j out of what stands now is taking i out of what stood ----
 
 pub record Closing {A : Type 0} (i n : ℕ) (was : List A) (j : ℕ) (es : List A) : Type 0 where
@@ -209,9 +174,6 @@ pub record Closing {A : Type 0} (i n : ℕ) (was : List A) (j : ℕ) (es : List 
   pub list : without j (take n es) ≡ without i (take n was)
 
 module _ {A : Type 0} where
-  pub close-start : (i n : ℕ) (es : List A) → Closing i n es i es
-  close-start i n es = record { places = refl; rest = refl; list = refl }
-
   pub close-more : (i n : ℕ) (was : List A) (j : ℕ) (es : List A) (d : A) → Closing i n was j es → n ≤ length was → j + 1 < n
       → Closing i n was (j + 1) (set es j (getD es (j + 1) d))
   close-more i n was j es d v fits h =

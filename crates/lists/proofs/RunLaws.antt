@@ -113,9 +113,6 @@ module _ {S R : Type 0} (step : S → Step S R) (measure : S → ℕ) (Ok : S �
   pub run-done : (s : S) → Ok s → step (ran step measure s .final) ≡ stop
   run-done s ok = complete-stop (ran-complete step measure Ok f s ok)
 
-  pub run-good : (s : S) → Ok s → Ok (ran step measure s .final)
-  run-good s ok = complete-keeps Ok (f .kept) ok (ran-complete step measure Ok f s ok)
-
   pub run-go : (s : S) (r : R) (t : S) → Ok s → step s ≡ go r t → ran step measure s ≡ leading r (ran step measure t)
   unfolding leading
   run-go s r t ok e =

@@ -1,11 +1,11 @@
 -- Laws of tests on lists: how facts and counts go over taking out, appending and changing one element.
 -- Assumes nothing.
-use Prim.Native.Nat.{ℕ, zero, suc, _+_, _≤_, _<_}
-use mathlib.Core.Path.{_≡_, refl, sym, subst, ap, _∙_}
-use mathlib.Core.Bool.{Bool, true, false, _&&_, _||_}
+use Prim.Native.Nat.{ℕ, zero, suc, _+_, _≤_}
+use mathlib.Core.Path.{_≡_, refl, subst, ap, _∙_}
+use mathlib.Core.Bool.{Bool, true, false}
 use mathlib.Core.List.{List, [], _∷_, _++_}
 use native.Mathlib.Omega.{arith}
-use lib.ListN.{length, set}
+use lib.ListN.{length}
 use Rattle.lists.specs.Places.{At, without}
 use Rattle.lists.specs.Tests.{All, all, any, pairs, one, count}
 use Rattle.lists.proofs.Bools.{clash, and-left, and-right, and-both, or-false-left, or-false-right}
@@ -42,11 +42,6 @@ module _ {A : Type 0} where
 
   pub all-snoc : (P : A → Type 0) (l : List A) (x : A) → All P l → P x → All P (l ++ (x ∷ []))
   all-snoc P l x a h = all-append P l (x ∷ []) a (h, tt)
-
-  pub all-set : (P : A → Type 0) (l : List A) (i : ℕ) (x : A) → All P l → P x → All P (set l i x)
-  all-set P [] i x a h = tt
-  all-set P (y ∷ l) zero x a h = (h, a .1)
-  all-set P (y ∷ l) (suc i) x a h = (a .0, all-set P l i x (a .1) h)
 
   -- ---- the answers are the facts ----
 
@@ -89,14 +84,6 @@ module _ {A : Type 0} where
       more true false f h = clash refl (f refl)
       more false true f h = omega arith
       more false false f h = omega arith
-
-  pub count-none : (p : A → Bool) (l : List A) → count p l ≡ 0 → All (λ (x : A). p x ≡ false) l
-  count-none p [] h = tt
-  count-none p (x ∷ l) h = (more (p x) h, count-none p l (omega arith))
-    where
-      more : (b : Bool) → one b + count p l ≡ 0 → b ≡ false
-      more true k = absurd (omega arith)
-      more false k = refl
 
   pub none-count : (p : A → Bool) (l : List A) → All (λ (x : A). p x ≡ false) l → count p l ≡ 0
   none-count p [] a = refl

@@ -89,10 +89,6 @@ module _ {E : Type 0} (C : Codec E) where
   unfolding packOf
   pack-packs e h = ap (λ (b : Bool). onlyIf b (some (bytesOf C (C .code e)))) h
 
-  pub pack-not : (e : E) → packs C e ≡ false → packOf C e ≡ none
-  unfolding packOf
-  pack-not e h = ap (λ (b : Bool). onlyIf b (some (bytesOf C (C .code e)))) h
-
   pub none-packs : (e : E) → packOf C e ≡ none → packs C e ≡ false
   none-packs e h = by-cases (packs C e) refl
     where

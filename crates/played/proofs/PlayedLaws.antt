@@ -1,7 +1,7 @@
 -- A run played message by message: each step is the definition's, and the end is where it stops.
-use Prim.Native.Nat.{ℕ, zero, suc, _+_, _*_, _-_, _≤_, _<_}
+use Prim.Native.Nat.{ℕ, zero, suc, _+_, _-_, _≤_, _<_}
 use mathlib.Core.Path.{_≡_, refl, sym, ap, _∙_}
-use mathlib.Core.Bool.{Bool, true, false, cond, _&&_}
+use mathlib.Core.Bool.{Bool, true, false, _&&_}
 use mathlib.Core.List.{List, _++_, append-nil}
 use mathlib.Core.Option.{Option, none, some}
 use native.Mathlib.Omega.{arith}
@@ -13,10 +13,10 @@ use Rattle.lists.proofs.Bools.{and-left, and-right}
 use Rattle.packing.specs.declared.setup.Setup.{Setup}
 use Rattle.series.specs.declared.Series.{Series}
 use Rattle.series.specs.Series.{opened}
-use Rattle.handler.specs.Handle.{Handled, handled, handledAt}
+use Rattle.handler.specs.Handle.{handled, handledAt}
 use Rattle.handler.proofs.Refusals.{refusals-keep}
 use Rattle.handler.proofs.Demands.{room-enough}
-use Rattle.played.specs.Played.{goesOn, endOf, marked, Turned, playedOn, played, playedBy}
+use Rattle.played.specs.Played.{goesOn, Turned, playedOn, played, playedBy}
 
 -- no message has more than 2,280 reports, refused or not
 pub count-few : (s : Series) (message room : List ℕ) → handled s message room .answer .count ≤ 2280

@@ -3,8 +3,6 @@ use handler::handle::handle_at;
 use series::Series;
 use series::open::open_series;
 ghost use mathlib.Core.Path.{_≡_};
-ghost use mathlib.Core.Bool.{_&&_};
-ghost use lib.Dec.{leb};
 ghost use lib.ListN.{length};
 ghost use Prim.Native.Nat.{_+_, _*_, _≤_};
 ghost use Rattle.played.specs.Played.{goesOn, Turned, played, playedFrom};

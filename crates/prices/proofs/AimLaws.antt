@@ -35,14 +35,6 @@ faced s x = cond (eqb x 0) unbound (seen s x)
 unfoldable pub before : ℕ → Bool → ℕ → ℕ
 before m s x = cond (eqb x 0) unbound (seen s (back m s x))
 
-pub faced-high : {m x : ℕ} (s : Bool) → Given m x → faced s x ≤ unbound
-unfolding faced
-faced-high {m} {x} s g = go (eqb x 0) refl
-  where
-    go : (t : Bool) → eqb x 0 ≡ t → cond t unbound (seen s x) ≤ unbound
-    go true e = omega arith
-    go false e = omega (arith, seen-high s x (omega (arith, g .legal e .high)))
-
 pub before-le : {m x : ℕ} (s : Bool) → Mpv m → Given m x → before m s x ≤ faced s x
 unfolding faced before
 before-le {m} {x} s v g = go (eqb x 0) refl

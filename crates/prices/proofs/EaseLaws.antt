@@ -7,7 +7,6 @@ use native.Mathlib.Omega.{arith}
 use borrow.Author.Tests.{eqb-true, eqb-false, eq-eqb, ltb-true, ltb-false, not-true, not-false}
 use lib.Dec.{eqb, ltb}
 use Rattle.prices.specs.Side.{keen, reaches}
-use Rattle.prices.specs.Step.{back}
 use Rattle.prices.specs.Ease.{beyond, easedTo, eases}
 use Rattle.prices.proofs.FrameLaws.{seen, seen-inj, seen-high, seen-keen, keen-either, reaches-true, reaches-false}
 use Rattle.prices.proofs.StepLaws.{Mpv, Legal, Given, present}

@@ -1,7 +1,7 @@
 -- The frame of a side: `seen s p` is the larger, the more aggressive p is, for either side. Definitions speak of prices as they are; laws
 -- speak of them in the frame, where a sell is the mirror image of a buy by definition and nothing goes by side any more.
 -- Assumes nothing.
-use Prim.Native.Nat.{ℕ, _+_, _-_, _≤_, _<_, min, max}
+use Prim.Native.Nat.{ℕ, _-_, _≤_, _<_, min, max}
 use mathlib.Core.Path.{_≡_, refl, sym, ap, _∙_}
 use mathlib.Core.Bool.{Bool, true, false, not, Bool·beq}
 use native.Mathlib.Omega.{arith}
@@ -131,10 +131,6 @@ facing-sym true false e = refl
 facing-sym false true e = refl
 facing-sym false false e = e
 
-pub facing-not : (s : Bool) → Facing (not s) s
-facing-not true = refl
-facing-not false = refl
-
 -- to one that faces it a price is as meek as it is keen to the other
 pub mirror-le : (s t : Bool) (p q : ℕ) → p ≤ 200000 → q ≤ 200000 → Facing s t → seen s p ≤ seen s q → seen t q ≤ seen t p
 unfolding seen
@@ -149,8 +145,3 @@ mirror-lt true true p q a b e h = clash e refl
 mirror-lt true false p q a b e h = omega arith
 mirror-lt false true p q a b e h = omega arith
 mirror-lt false false p q a b e h = clash e refl
-
-pub seen-keen-not : (s : Bool) (p q : ℕ) → seen s (keen (not s) p q) ≡ min (seen s p) (seen s q)
-unfolding seen keen
-seen-keen-not false p q = refl
-seen-keen-not true p q = omega arith

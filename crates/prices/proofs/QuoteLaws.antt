@@ -2,7 +2,7 @@
 -- Assumes nothing.
 use Prim.Native.Nat.{ℕ, _≤_, _<_, max}
 use mathlib.Core.Path.{_≡_, refl}
-use mathlib.Core.Bool.{Bool, true, false, cond, not, _&&_, _||_}
+use mathlib.Core.Bool.{Bool, true, false, cond, not, _&&_}
 use native.Mathlib.Omega.{arith}
 use borrow.Author.Tests.{not-false}
 use lib.Dec.{eqb}
@@ -12,9 +12,9 @@ use Rattle.prices.specs.Aims.{minds, minded, aims}
 use Rattle.prices.specs.Rest.{marketable, resting, atRest, restless}
 use Rattle.prices.proofs.FrameLaws.{seen, seen-high, reaches-false, unreached}
 use Rattle.prices.proofs.StepLaws.{Mpv, Legal, Given}
-use Rattle.prices.proofs.AimLaws.{unbound, faced, before, before-lt, before-grid, before-mono, Aimed, aimed, given-minded}
+use Rattle.prices.proofs.AimLaws.{unbound, faced, before, before-lt, before-grid, before-mono, Aimed, aimed}
 use Rattle.prices.proofs.RestLaws.{Slides, Eased, AtRest, reach, moved-rests, moved-eased, moved-on, moved-short, moved-slides, rest-is, is-rest}
-use Rattle.lists.proofs.Bools.{or-false-left, or-false-right}
+use Rattle.lists.proofs.Bools.{or-false-right}
 
 module _ {m c : ℕ} (kind : ℕ) (s : Bool) (v : Mpv m) (gc : Given m c) where
   -- a legal price short of the contra price is at most one step before the contra price that the kind minds

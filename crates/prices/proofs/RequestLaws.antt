@@ -2,7 +2,7 @@
 -- Assumes nothing.
 use Prim.Native.Nat.{ℕ}
 use mathlib.Core.Path.{_≡_}
-use mathlib.Core.Bool.{Bool, true, _&&_, _||_}
+use mathlib.Core.Bool.{true, _&&_, _||_}
 use lib.Dec.{eqb, leb}
 use Rattle.prices.specs.Step.{mpv, legal, given}
 use Rattle.prices.specs.Aims.{Bounds}

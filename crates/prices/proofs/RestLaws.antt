@@ -13,8 +13,8 @@ use Rattle.prices.specs.Step.{legal, back, lastPrice}
 use Rattle.prices.specs.Rest.{resting, atRest, slides}
 use Rattle.prices.proofs.FrameLaws.{seen, seen-inj, seen-keen, keen-either, reaches-true, reached}
 use Rattle.prices.proofs.StepLaws.{Mpv, Legal, Given, is-legal, legal-is, back-lt, back-high, last-legal}
-use Rattle.prices.proofs.AimLaws.{faced, before, Near, Aimed, aims-order, aims-limit, aims-away, aims-step}
-use Rattle.lists.proofs.Bools.{and-left, and-right, and-both}
+use Rattle.prices.proofs.AimLaws.{faced, before, Aimed, aims-order, aims-limit, aims-away, aims-step}
+use Rattle.lists.proofs.Bools.{and-left, and-right}
 
 -- ---- sound prices of a sliding quote, as facts in the frame ----
 

@@ -1,7 +1,7 @@
 -- THE LAWS OF THE STEP: positive, back-lt, back-grid, back-high, back-legal, last-legal, past-last, within-last. Every other law knows a step by these alone, so
 -- that a step which depends on the price moves this file and specs/Step.
 -- Assumes nothing.
-use Prim.Native.Nat.{ℕ, _+_, _-_, _*_, _≤_, _<_, _%_}
+use Prim.Native.Nat.{ℕ, _+_, _*_, _≤_, _<_, _%_}
 use mathlib.Core.Path.{_≡_, refl, sym}
 use mathlib.Core.Bool.{Bool, true, false, not, _&&_, _||_, and-true}
 use native.Mathlib.Omega.{arith}
@@ -10,7 +10,7 @@ use lib.Dec.{eqb, leb}
 use Rattle.prices.specs.Side.{reaches}
 use Rattle.prices.specs.Step.{mpv, onGrid, legal, given, back, lastPrice, pastLast}
 use Rattle.prices.proofs.FrameLaws.{seen, reaches-true, reaches-false}
-use Rattle.lists.proofs.Bools.{clash, and-left, and-right, and-both}
+use Rattle.lists.proofs.Bools.{clash, and-left, and-right}
 
 -- ---- the tests as facts ----
 

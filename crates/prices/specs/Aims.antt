@@ -2,7 +2,7 @@
 -- Kinds are numbered as in messages: 1 plain, 2 MMLO, 3 MMALO, 4 MMRP, 5 displayed order, 6 dark order.
 -- Assumes nothing.
 use Prim.Native.Nat.{ℕ}
-use mathlib.Core.Bool.{Bool, true, false, cond, _||_}
+use mathlib.Core.Bool.{Bool, true, cond, _||_}
 use mathlib.Core.Path.{_≡_}
 use lib.Dec.{eqb}
 use Rattle.prices.specs.declared.Prices.{Prices}

@@ -1,7 +1,7 @@
 -- "What is left posts, unless, first that applies": 20, 21, 23, 22. Each test is named, with the two figures that it compares.
 -- Assumes nothing.
 use Prim.Native.Nat.{ℕ}
-use mathlib.Core.Bool.{Bool, true, false, cond, not, _&&_}
+use mathlib.Core.Bool.{Bool, cond, not, _&&_}
 use lib.Dec.{eqb, ltb}
 use Rattle.prices.specs.declared.Figures.{Figures}
 use Rattle.prices.specs.Side.{reaches}

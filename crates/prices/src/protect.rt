@@ -3,7 +3,6 @@ use crate::Figures;
 use crate::Guard;
 use crate::step::less;
 ghost use mathlib.Core.Path.{_≡_};
-ghost use Prim.Native.Nat.{_≤_};
 ghost use Rattle.prices.specs.Protect.{bars25, bars26, figures24, limited24, bars24, protection, Cents};
 
 // A call's bid at or above the underlying price.

@@ -5,7 +5,7 @@ use mathlib.Core.Path.{_≡_, refl}
 use mathlib.Core.List.{List, [], _∷_}
 use native.Mathlib.Omega.{arith}
 use borrow.Author.Tests.{le-leb, lt-leb}
-use lib.ListN.{length, getD}
+use lib.ListN.{length}
 use Rattle.reading.specs.Number.{byteAt, numberAt}
 
 pub beyond : (l : List ℕ) (at : ℕ) → length l ≤ at → 0 ≡ byteAt l at

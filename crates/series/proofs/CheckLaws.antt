@@ -1,21 +1,13 @@
 -- What the test of a series adds to the test of its book: one law for each way out.
 -- Assumes nothing.
-use Prim.Native.Nat.{ℕ}
 use mathlib.Core.Path.{_≡_, refl, sym, ap, _∙_}
-use mathlib.Core.Bool.{Bool, true, false, cond, not, _&&_}
-use mathlib.Core.List.{List}
-use lib.Dec.{eqb}
-use lib.ListN.{length}
-use Rattle.prices.specs.Step.{mpv}
-use Rattle.lists.specs.Tests.{any}
-use Rattle.lists.proofs.Bools.{clash, and-right}
-use Rattle.book.specs.declared.Entry.{Entry}
-use Rattle.book.specs.Entries.{quote}
-use Rattle.book.specs.Shape.{entriesOf, WellFormed}
+use mathlib.Core.Bool.{Bool, true, false, _&&_}
+use Rattle.lists.proofs.Bools.{clash}
+use Rattle.book.specs.Shape.{entriesOf}
 use Rattle.book.proofs.ShapeLaws.{length-entries}
 use Rattle.sound.specs.Sound.{soundBook}
 use Rattle.checking.specs.declared.Check.{Check}
-use Rattle.checking.specs.Summary.{Checked, Summary, unsound}
+use Rattle.checking.specs.Summary.{Checked, unsound}
 use Rattle.series.specs.declared.Series.{Series}
 use Rattle.series.specs.Series.{soundTerms, soundPhase, soundSeries}
 use Rattle.series.specs.Checks.{phaseWith, Tested}

@@ -1,9 +1,9 @@
 -- Where nobody is restless there is nothing to settle: a quote that is to be eased is not at its resting prices either, so that one test serves both rules.
 -- Assumes nothing.
-use Prim.Native.Nat.{ℕ, suc}
+use Prim.Native.Nat.{ℕ}
 use mathlib.Core.Path.{_≡_, refl, ap}
 use mathlib.Core.Bool.{Bool, true, false, not, _&&_}
-use mathlib.Core.List.{List, [], _∷_}
+use mathlib.Core.List.{List}
 use native.Mathlib.Omega.{arith}
 use lib.Dec.{eqb}
 use borrow.Author.Tests.{eqb-true, not-false}
@@ -17,9 +17,8 @@ use Rattle.prices.proofs.AimLaws.{aims-away}
 use Rattle.prices.proofs.RestLaws.{Slides, Eased, moved-display, moved-working}
 use Rattle.prices.proofs.QuoteLaws.{aim-aimed}
 use Rattle.lists.specs.Places.{At}
-use Rattle.lists.specs.Tests.{any}
-use Rattle.lists.specs.Run.{stop, still}
-use Rattle.lists.proofs.Bools.{clash, and-left, and-right, or-false-right}
+use Rattle.lists.specs.Run.{still}
+use Rattle.lists.proofs.Bools.{and-left, and-right, or-false-right}
 use Rattle.lists.proofs.TestLaws.{all-at, any-false}
 use Rattle.lists.proofs.ChooseLaws.{Nobody}
 use Rattle.lists.proofs.RunLaws.{run-stop}
@@ -31,7 +30,7 @@ use Rattle.sound.proofs.Facts.{PricedAs, Sound}
 use Rattle.sound.proofs.FrontLaws.{given-contra}
 use Rattle.sound.proofs.KeepLaws.{here-facts}
 use Rattle.settling.specs.Settle.{easesAs, easing, restlessAs, stirring, nextEase, easings, nextStir, stirrings, eased, stirred, settled, stirs}
-use Rattle.settling.proofs.Shapes.{stir-stop, nobody-eases, nobody-stirs}
+use Rattle.settling.proofs.Shapes.{nobody-eases, nobody-stirs}
 use Rattle.settling.proofs.EaseRule.{MarketFacts, eased-calm}
 
 -- a quote at its resting prices is eased
@@ -80,13 +79,3 @@ module _ {k : Market} {top : ℕ} {l : List Entry} (mk : MarketFacts k) (so : So
   unfolding stirs
   quiet h =
       calm-settled (record { nobody = λ i e at. all-at (λ (x : Entry). stirring k l x ≡ false) l i e (any-false (stirring k l) l h) at })
-
-no-any : {A : Type 0} (test : A → Bool) (l : List A) → ((i : ℕ) (x : A) → At l i x → test x ≡ false) → any test l ≡ false
-unfolding any
-no-any test [] f = refl
-no-any test (x ∷ l) f = rw (f 0 x refl) (no-any test l (λ i y h. f (suc i) y h))
-
--- and where something stirs there is a step to take
-pub awake : (k : Market) (l : List Entry) → stirs k l ≡ true → nextStir k l ≡ stop → ⊥
-unfolding stirs
-awake k l h e = clash h (no-any (stirring k l) l (λ i x a. stir-stop k l e .nobody i x a))

@@ -1,7 +1,7 @@
 -- The price that a side faces in the book, in its frame: what document 01 calls C is the nearest of the contra side's working prices, and to be clear of every
 -- entry is to be short of it.
 -- Assumes nothing.
-use Prim.Native.Nat.{ℕ, zero, suc, _+_, _≤_, _<_, min}
+use Prim.Native.Nat.{ℕ, zero, suc, _≤_, _<_, min}
 use mathlib.Core.Path.{_≡_, refl, subst, ap, _∙_}
 use mathlib.Core.Bool.{Bool, true, false, cond, not, Bool·beq}
 use mathlib.Core.List.{List, [], _∷_, _++_}

@@ -6,7 +6,7 @@ ghost use mathlib.Core.List.{map};
 ghost use mathlib.Core.Option.{some};
 ghost use Prim.Native.Nat.{_≤_};
 ghost use lib.ListN.{length, take, drop};
-ghost use Rattle.packing.specs.Codec.{bit, onlyIf, fieldsIn, bytesOf, packs, unpackOf};
+ghost use Rattle.packing.specs.Codec.{onlyIf, fieldsIn, bytesOf, packs, unpackOf};
 ghost use Rattle.state.specs.Header.{headers, codeOf, isSet, headerBy};
 
 // Whether there is a header, and which.

@@ -5,7 +5,7 @@ use book::entries::zero_entry;
 ghost use mathlib.Core.Path.{_≡_};
 ghost use mathlib.Core.Option.{some};
 ghost use Prim.Native.Nat.{_≤_, _<_};
-ghost use lib.ListN.{length, take, drop, getD};
+ghost use lib.ListN.{length, take, getD};
 ghost use Rattle.lists.specs.Tests.{all};
 ghost use Rattle.packing.specs.Codec.{onlyIf, fieldsIn, bytesOf, packs, unpackOf};
 ghost use Rattle.state.specs.Entry.{entries, codeOf, pricingNumber, ownDisplay, pricingBy, entryBy};

@@ -1,7 +1,6 @@
 use Prim.Native.Nat.{_+_, _*_}
 use mathlib.Core.List.{_++_}
 use mathlib.Core.Path.{ap, _∙_}
-use native.Mathlib.Omega.{arith}
 use lib.ListN.{take, drop}
 use Rattle.packing.specs.Message.{messageAt}
 use Rattle.handler.specs.Handle.{Handled}

@@ -8,7 +8,6 @@ use Rattle.book.proofs.RankLaws.{rank-none, rank-at}
 use Rattle.arrival.specs.Asks.{takingOf}
 use Rattle.arrival.specs.Take.{shownOnly}
 use Rattle.book.specs.Look.{bestContra, rankOf, eligible, priority}
-use Rattle.book.specs.Shape.{entriesOf}
 use mathlib.Core.Bool.{Bool}
 use mathlib.Core.Path.{sym, ap, _∙_}
 use borrow.Author.Needs.{needs}

@@ -2,7 +2,6 @@ use native.Mathlib.Omega.{arith}
 use Rattle.lists.proofs.PlaceLaws.{length-snoc}
 use Rattle.book.proofs.ShapeLaws.{holds}
 use Rattle.book.proofs.ChangeLaws.{drops, without-fits, requeue-fits}
-use Rattle.book.proofs.ChangeLaws.{drops, without-fits}
 use Rattle.book.specs.Shape.{entriesOf, bookOf}
 use Rattle.book.specs.declared.Entry.{Entry}
 use Rattle.lists.specs.Places.{without, requeue}

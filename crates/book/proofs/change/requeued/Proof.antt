@@ -1,6 +1,6 @@
 use Rattle.book.proofs.ChangeLaws.{requeues}
 use Rattle.book.specs.Shape.{zeroEntry}
-use Rattle.lists.proofs.LoopLaws.{Closing, close-start, close-more}
+use Rattle.lists.proofs.LoopLaws.{Closing, close-more}
 use native.Mathlib.Omega.{arith}
 use mathlib.Core.Path.{_≡_}
 use Prim.Native.Nat.{_+_, _-_, _≤_}

@@ -4,8 +4,6 @@ use Rattle.book.specs.Look.{lower, eligible, priority, bestContra}
 use Rattle.lists.proofs.LoopLaws.{Lowering, lower-start, lower-done}
 use native.Mathlib.Omega.{arith}
 use mathlib.Core.Path.{ap, _∙_}
-use Rattle.book.specs.Look.{eligible, priority, bestContra}
-use Rattle.lists.proofs.LoopLaws.{Lowering, lower-start, lower-taken, lower-kept, lower-done}
 use Prim.Native.Nat.{_-_}
 use borrow.Author.Needs.{needs}
 use Rattle.book.proofs.look.best_contra.Statement.{statement}

@@ -1,4 +1,4 @@
-use borrow.Author.Tests.{le-leb, lt-leb, eq-eqb, ne-eqb, not-true, not-false}
+use borrow.Author.Tests.{le-leb, lt-leb, ne-eqb}
 use borrow.Author.Needs.{needs}
 use Rattle.handler.proofs.refuse.is_bad_quantity.Statement.{statement}
 use Rattle.handler.proofs.refuse.is_bad_quantity.Tie as tie

@@ -1,6 +1,5 @@
-use borrow.Author.Tests.{le-leb, lt-leb, eq-eqb, ne-eqb, not-true, not-false}
 use native.Mathlib.Omega.{arith}
-use mathlib.Core.Path.{sym, ap, _∙_}
+use mathlib.Core.Path.{ap, _∙_}
 use Rattle.book.specs.Shape.{entriesOf}
 use Rattle.book.proofs.ShapeLaws.{length-entries}
 use Rattle.handler.proofs.HandleLaws.{quote-party, full-none, full-space, full-order, full-quote, seat-empty}

@@ -1,4 +1,4 @@
-use mathlib.Core.Path.{sym, ap, _∙_}
+use mathlib.Core.Path.{sym, _∙_}
 use Rattle.handler.specs.Refuse.{refusalOf}
 use borrow.Author.Needs.{needs}
 use Rattle.handler.proofs.refuse.refusal_of.Statement.{statement}

@@ -1,6 +1,5 @@
 use mathlib.Core.Path.{sym, _∙_}
 use borrow.Author.Tests.{not-true, not-false}
-use borrow.Author.Tests.{not-true}
 use Rattle.prices.specs.Rest.{slides}
 use borrow.Author.Needs.{needs}
 use Rattle.prices.proofs.rest.is_slide.Statement.{statement}

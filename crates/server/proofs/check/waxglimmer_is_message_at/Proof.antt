@@ -1,7 +1,6 @@
 use mathlib.Core.Path.{sym, ap, _∙_}
 use denote.Ref.{now}
-use Rattle.packing.specs.Message.{messageAt}
-use Rattle.packing.specs.Message.{saidBy}
+use Rattle.packing.specs.Message.{messageAt, saidBy}
 use Rattle.server.proofs.CheckLaws.{is-message, is-nothing}
 use borrow.Author.Needs.{needs}
 use Rattle.server.proofs.check.waxglimmer_is_message_at.Statement.{statement}
