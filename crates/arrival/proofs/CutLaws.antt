@@ -12,7 +12,7 @@ use Rattle.lists.specs.Places.{without}
 use Rattle.lists.specs.Tests.{All}
 use Rattle.lists.specs.Choose.{Found, nowhere, found}
 use Rattle.lists.specs.Run.{still}
-use Rattle.lists.proofs.Bools.{and-left, and-right}
+use Rattle.lists.proofs.Bools.{and-left, and-right, beq-true, eq-beq}
 use Rattle.lists.proofs.PlaceLaws.{at-inside, length-without}
 use Rattle.lists.proofs.TestLaws.{all-map, all-of, all-without}
 use Rattle.lists.proofs.ChooseLaws.{Tells}
@@ -67,12 +67,6 @@ module _ (why : ℕ) (l : List Entry) where
 abbrev pub OtherThan : ℕ → Bool → Entry → Type 0
 OtherThan party s x = quoteOf party s x ≡ false
 
-same-side : (s t : Bool) → Bool·beq s t ≡ true → s ≡ t
-same-side true true e = refl
-same-side true false e = sym e
-same-side false true e = e
-same-side false false e = refl
-
 pub record OfMaker (maker : ℕ) (s : Bool) (x : Entry) : Type 0 where
   pub quotes : quote x ≡ true
   pub party : x .party ≡ maker
@@ -84,15 +78,11 @@ of-maker party s x h =
     record {
       quotes = and-left (quote x) (eqb (x .party) party && Bool·beq (x .sell) s) h;
       party = eqb-true (x .party) party (and-left (eqb (x .party) party) (Bool·beq (x .sell) s) r);
-      side = same-side (x .sell) s (and-right (eqb (x .party) party) (Bool·beq (x .sell) s) r);
+      side = beq-true (x .sell) s (and-right (eqb (x .party) party) (Bool·beq (x .sell) s) r);
     }
 
-same-beq : (s : Bool) → Bool·beq s s ≡ true
-same-beq true = refl
-same-beq false = refl
-
 pub maker-of : (party : ℕ) (s : Bool) (x : Entry) → OfMaker party s x → quoteOf party s x ≡ true
-maker-of party s x o = rw (o .quotes, eq-eqb (x .party) party (o .party), o .side, same-beq s) refl
+maker-of party s x o = rw (o .quotes, eq-eqb (x .party) party (o .party), eq-beq (x .sell) s (o .side)) refl
 
 module _ (why party : ℕ) (s : Bool) (l : List Entry) where
   pub quote-few : length (cutQuote why party s l .records) ≤ 1

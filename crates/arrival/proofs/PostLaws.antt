@@ -22,7 +22,7 @@ use Rattle.prices.proofs.RestLaws.{Slides, arrives}
 use Rattle.prices.proofs.QuoteLaws.{unmarketable, minding-rests}
 use Rattle.lists.specs.Places.{At}
 use Rattle.lists.specs.Tests.{All, any}
-use Rattle.lists.proofs.Bools.{or-false-left}
+use Rattle.lists.proofs.Bools.{or-false-left, cond-zero}
 use Rattle.lists.proofs.TestLaws.{all-at, all-of, any-false}
 use Rattle.packing.proofs.ReportLaws.{rested-packs}
 use Rattle.book.specs.declared.Entry.{Entry}
@@ -74,10 +74,6 @@ module _ (k : Market) (e : Entry) where
       go false g = omega (arith, reaches-not (e .sell) (e .limit) (away k (e .sell)) g)
 
 -- ---- nothing stops it ----
-
-cond-zero : (b : Bool) (n x : ℕ) → 1 ≤ n → cond b n x ≡ 0 → (b ≡ false) × (x ≡ 0)
-cond-zero true n x k h = absurd (omega arith)
-cond-zero false n x k h = (refl, h)
 
 pub may-rest : (a b c d : Bool) → firstStop a b c d ≡ 0 → (a ≡ false) × ((b ≡ false) × ((c ≡ false) × (d ≡ false)))
 may-rest a b c d h =

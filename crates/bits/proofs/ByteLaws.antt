@@ -44,6 +44,12 @@ bytes-lt zero s h = omega arith
 bytes-lt (suc n) [] h = pow-pos (total (bytes (suc n)))
 bytes-lt (suc n) (x ∷ s) h = rw pow-add (digits-lt (h 0) (bytes-lt n s (λ i. h (suc i))))
 
+pub bytes-take : (n : ℕ) (s : List ℕ) → Bytes s → Bytes (take n s)
+bytes-take zero s b i = omega arith
+bytes-take (suc n) [] b i = b i
+bytes-take (suc n) (x ∷ s) b zero = b 0
+bytes-take (suc n) (x ∷ s) b (suc i) = bytes-take n s (λ (k : ℕ). b (suc k)) i
+
 pub bytes-drop : (n : ℕ) (s : List ℕ) → Bytes s → Bytes (drop n s)
 bytes-drop n s h i = rw getD-drop (h (n + i))
 

@@ -4,7 +4,7 @@ use Prim.Native.Nat.{ℕ, _≤_, _<_}
 use mathlib.Core.Path.{_≡_, refl, ap, _∙_}
 use mathlib.Core.Bool.{Bool, true, false, cond, not, _&&_, _||_}
 use native.Mathlib.Omega.{arith}
-use borrow.Author.Tests.{leb-true, le-leb, eqb-true}
+use borrow.Author.Tests.{leb-true, eqb-true}
 use lib.Dec.{eqb, leb}
 use Rattle.prices.specs.Step.{mpv, legal, back}
 use Rattle.prices.specs.Side.{reaches}
@@ -17,6 +17,7 @@ use Rattle.book.specs.declared.Pricing.{Pricing}
 use Rattle.book.specs.declared.Pricing.the-variants.{Fixed, Dark, Sliding}
 use Rattle.book.specs.Entries.{quote, shownAs, display}
 use Rattle.sound.specs.Sound.{between, numbered, kinded, partied, sized, pricedAs, pricedWell, soundEntry}
+use Rattle.sound.proofs.Decides.{between-both}
 use Rattle.checking.specs.Summary.{seat, seatOf}
 
 pub record Clauses (m given : ℕ) (e : Entry) : Type 0 where
@@ -46,13 +47,6 @@ of-clauses m given e c =
     and-both (numbered given e) (kinded e && (partied e && (sized m e && pricedWell m e))) (c .number)
     (and-both (kinded e) (partied e && (sized m e && pricedWell m e)) (c .kind)
     (and-both (partied e) (sized m e && pricedWell m e) (c .party) (and-both (sized m e) (pricedWell m e) (c .size) (c .price))))
-
--- from low to high
-pub between-both : (low high x : ℕ) → between low high x ≡ true → (low ≤ x) × (x ≤ high)
-between-both low high x h = (leb-true low x (and-left (leb low x) (leb x high) h), leb-true x high (and-right (leb low x) (leb x high) h))
-
-pub both-between : (low high x : ℕ) → (low ≤ x) × (x ≤ high) → between low high x ≡ true
-both-between low high x h = and-both (leb low x) (leb x high) (le-leb low x (h .0)) (le-leb x high (h .1))
 
 -- the party of a quote is a maker
 pub maker : (m given : ℕ) (e : Entry) → Clauses m given e → quote e ≡ true → (1 ≤ e .party) × (e .party ≤ 16)

@@ -17,15 +17,16 @@ use Rattle.prices.specs.Rest.{slides}
 use Rattle.prices.proofs.StepLaws.{is-legal, legal-is}
 use Rattle.lists.specs.Places.{At}
 use Rattle.lists.specs.Tests.{all, pairs}
-use Rattle.lists.proofs.Bools.{clash, and-left, and-right, and-both}
+use Rattle.lists.proofs.Bools.{clash, and-left, and-right, and-both, beq-true, eq-beq}
 use Rattle.lists.proofs.TestLaws.{all-true, true-all, all-at, all-of}
 use Rattle.book.specs.declared.Entry.{Entry}
 use Rattle.book.specs.declared.Pricing.{Pricing}
 use Rattle.book.specs.declared.Pricing.the-variants.{Fixed, Dark, Sliding}
 use Rattle.book.specs.Entries.{quote}
 use Rattle.sound.specs.Sound.{between, pricedAs, soundEntry, distinct, oneQuote, uncrossed, uncrossedAs, soundPair}
+use Rattle.sound.proofs.Decides.{between-both, both-between}
 use Rattle.checking.specs.SoundBook.{LegalPrice, SoundSlide, AtLimit, Slider, Numbered, LegalFigures, SoundPrices, Distinct, OneQuote, Uncrossed}
-use Rattle.checking.proofs.ClauseLaws.{clauses-of, of-clauses, between-both, both-between}
+use Rattle.checking.proofs.ClauseLaws.{clauses-of, of-clauses}
 
 -- ---- prices ----
 
@@ -205,13 +206,6 @@ pub record SoundTwo (x y : Entry) : Type 0 where
   pub quotes : OneQuote x y
   pub uncrossed : Uncrossed x y
 
-beq-is : (s t : Bool) → s ≡ t → Bool·beq s t ≡ true
-beq-is s t e = rw e (same t)
-  where
-    same : (b : Bool) → Bool·beq b b ≡ true
-    same true = refl
-    same false = refl
-
 module _ (x y : Entry) where
   pair-facts : soundPair x y ≡ true → (distinct x y ≡ true) × ((oneQuote x y ≡ true) × (uncrossed x y ≡ true))
   unfolding soundPair
@@ -224,7 +218,7 @@ module _ (x y : Entry) where
       let both : (quote x && (quote y && (eqb (x .party) (y .party) && Bool·beq (x .sell) (y .sell)))) ≡ true =
       and-both (quote x) (quote y && (eqb (x .party) (y .party) && Bool·beq (x .sell) (y .sell))) (le-leb (x .kind) 4 a)
       (and-both (quote y) (eqb (x .party) (y .party) && Bool·beq (x .sell) (y .sell)) (le-leb (y .kind) 4 b)
-      (and-both (eqb (x .party) (y .party)) (Bool·beq (x .sell) (y .sell)) (eq-eqb (x .party) (y .party) c) (beq-is (x .sell) (y .sell) d))) in
+      (and-both (eqb (x .party) (y .party)) (Bool·beq (x .sell) (y .sell)) (eq-eqb (x .party) (y .party) c) (eq-beq (x .sell) (y .sell) d))) in
       clash both (not-true (quote x && (quote y && (eqb (x .party) (y .party) && Bool·beq (x .sell) (y .sell)))) h)
 
   two-facts : soundPair x y ≡ true → SoundTwo x y
@@ -243,16 +237,10 @@ module _ (x y : Entry) where
       (and-both (oneQuote x y) (uncrossed x y)
       (one (quote x) refl (quote y) refl (eqb (x .party) (y .party)) refl (Bool·beq (x .sell) (y .sell)) refl) (sides (x .sell) refl (y .sell) refl))
     where
-      same : (s t : Bool) → Bool·beq s t ≡ true → s ≡ t
-      same true true e = refl
-      same true false e = sym e
-      same false true e = e
-      same false false e = refl
-
       one : (a : Bool) → quote x ≡ a → (b : Bool) → quote y ≡ b → (c : Bool) → eqb (x .party) (y .party) ≡ c
           → (d : Bool) → Bool·beq (x .sell) (y .sell) ≡ d → not (a && (b && (c && d))) ≡ true
       one true p true q true r true t =
-          absurd (f .quotes (leb-true (x .kind) 4 p) (leb-true (y .kind) 4 q) (eqb-true (x .party) (y .party) r) (same (x .sell) (y .sell) t))
+          absurd (f .quotes (leb-true (x .kind) 4 p) (leb-true (y .kind) 4 q) (eqb-true (x .party) (y .party) r) (beq-true (x .sell) (y .sell) t))
       one true p true q true r false t = refl
       one true p true q false r d t = refl
       one true p false q c r d t = refl

@@ -9,7 +9,7 @@ use borrow.Author.Tests.{eqb-true, eqb-false, ltb-true, eq-eqb, ne-eqb}
 use lib.Dec.{eqb, ltb}
 use Rattle.lists.specs.Tests.{All, all, any, pairs}
 use Rattle.lists.specs.Choose.{scan}
-use Rattle.lists.proofs.Bools.{and-left, and-right, and-both}
+use Rattle.lists.proofs.Bools.{and-left, and-right, and-both, not-either}
 
 -- what comes out true whenever another does comes out false whenever it does not
 pub contrary : (a b : Bool) → (a ≡ true → b ≡ true) → b ≡ false → a ≡ false
@@ -105,11 +105,7 @@ module _ {A : Type 0} (key : A → ℕ) where
   pub new-by-list : (l : List A) (x : A) → all (λ (y : A). not (eqb (key y) (key x))) l ≡ not (any (eqb (key x)) (map key l))
   unfolding all any
   new-by-list [] x = refl
-  new-by-list (y ∷ l) x = rw (new-by-list l x, eqb-turn (key y) (key x)) (both (eqb (key x) (key y)) (any (eqb (key x)) (map key l)))
-    where
-      both : (a b : Bool) → (not a && not b) ≡ not (a || b)
-      both true b = refl
-      both false b = refl
+  new-by-list (y ∷ l) x = rw (new-by-list l x, eqb-turn (key y) (key x)) (not-either (eqb (key x) (key y)) (any (eqb (key x)) (map key l)))
 
   -- and so it has if its key is above theirs
   pub new-by-top : (top : ℕ) (l : List A) (x : A) → All (λ (y : A). key y ≤ top) l → top < key x → all (λ (y : A). not (eqb (key y) (key x))) l ≡ true

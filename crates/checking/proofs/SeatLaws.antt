@@ -10,7 +10,7 @@ use lib.Dec.{eqb}
 use lib.ListN.{getD, set, replicate, length-set}
 use lib.Seq.{getD-set-same, getD-set-other}
 use Rattle.lists.specs.Tests.{all, any}
-use Rattle.lists.proofs.Bools.{clash}
+use Rattle.lists.proofs.Bools.{not-either, beq-true, beq-false}
 use Rattle.book.specs.declared.Entry.{Entry}
 use Rattle.book.specs.Entries.{quote, quoteOf}
 use Rattle.sound.specs.Sound.{oneQuote}
@@ -32,18 +32,6 @@ seat-some p true h e = omega arith
 pub seat-within : (p : ℕ) (s : Bool) → p ≤ 16 → seat p s < 33
 seat-within p false h = omega arith
 seat-within p true h = omega arith
-
-beq-true : (s t : Bool) → Bool·beq s t ≡ true → s ≡ t
-beq-true true true e = refl
-beq-true true false e = sym e
-beq-true false true e = e
-beq-true false false e = refl
-
-beq-false : (s t : Bool) → Bool·beq s t ≡ false → s ≡ t → ⊥
-beq-false true true e h = clash refl e
-beq-false true false e h = clash refl h
-beq-false false true e h = clash h refl
-beq-false false false e h = clash refl e
 
 -- nobody sits where there are no entries
 pub seated-none : Seated [] (replicate 33 false)
@@ -75,15 +63,11 @@ module _ {m given : ℕ} (l : List Entry) (e : Entry) (seats : List Bool) (c : C
   quoted [] q = refl
   quoted (y ∷ l) q =
       rw (one (quote y) (quote e) (eqb (y .party) (e .party) && Bool·beq (y .sell) (e .sell)) q, quoted l q)
-      (both (quoteOf (e .party) (e .sell) y) (any (quoteOf (e .party) (e .sell)) l))
+      (not-either (quoteOf (e .party) (e .sell) y) (any (quoteOf (e .party) (e .sell)) l))
     where
       one : (a b z : Bool) → b ≡ true → not (a && (b && z)) ≡ not (a && z)
       one true b z h = rw h
       one false b z h = refl
-
-      both : (a b : Bool) → (not a && not b) ≡ not (a || b)
-      both true b = refl
-      both false b = refl
 
   pub seat-decides : all (λ (y : Entry). oneQuote y e) l ≡ not (getD seats (seatOf e) false)
   seat-decides = by (quote e) refl

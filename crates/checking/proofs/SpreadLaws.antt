@@ -1,6 +1,6 @@
 -- HIGHEST BELOW LOWEST: the best prices of a list decide whether every buy in it works below every sell.
 -- Assumes nothing.
-use Prim.Native.Nat.{ℕ, zero, suc, _+_, _≤_, min, max}
+use Prim.Native.Nat.{ℕ, _+_, _≤_, min, max}
 use mathlib.Core.Path.{_≡_, refl, sym, _∙_}
 use mathlib.Core.Bool.{Bool, true, false, cond, _&&_, _||_, Bool·beq, and-true}
 use mathlib.Core.List.{List, [], _∷_}
@@ -10,9 +10,9 @@ use lib.Dec.{eqb, ltb}
 use Rattle.prices.specs.Side.{nearer, meek}
 use Rattle.lists.specs.Tests.{All, all, pairs}
 use Rattle.lists.specs.Choose.{scan}
-use Rattle.lists.proofs.Bools.{clash}
 use Rattle.book.specs.declared.Entry.{Entry}
 use Rattle.book.specs.Look.{contra, nearest, working, facing}
+use Rattle.book.proofs.OfferLaws.{positive}
 use Rattle.sound.specs.Sound.{uncrossed, uncrossedAs}
 use Rattle.checking.specs.Summary.{apart}
 use Rattle.checking.proofs.PairLaws.{all-same, all-and}
@@ -24,10 +24,6 @@ fits bid offer true w = ltb bid w
 
 beside : ℕ → ℕ → Entry → Bool
 beside bid offer e = fits bid offer (e .sell) (e .working)
-
-some-of : (q : ℕ) → eqb q 0 ≡ false → 1 ≤ q
-some-of zero e = clash refl e
-some-of (suc q) e = omega arith
 
 module _ (p q w : ℕ) (some : 1 ≤ w) where
   -- the higher of two bids is below a price just if both are
@@ -58,7 +54,7 @@ module _ (p q w : ℕ) (some : 1 ≤ w) where
       go a e true f c g d h = absurd (omega (arith, eqb-true w 0 f))
       go true e false f c g d h = present w some ∙ h
       go false e false f c g d h =
-          let q-some : 1 ≤ min q w = omega (arith, some-of q e) in
+          let q-some : 1 ≤ min q w = omega (arith, positive q e) in
           present (min q w) q-some ∙ lower c g d h
         where
           lower : (c : Bool) → ltb x q ≡ c → (d : Bool) → ltb x w ≡ d → ltb x (min q w) ≡ (c && d)

@@ -11,6 +11,7 @@ use lib.ListN.{length, length-append}
 use borrow.Author.Tests.{leb-true, eqb-true}
 use Rattle.prices.specs.Step.{mpv, given}
 use Rattle.lists.specs.Run.{Ran, still}
+use Rattle.lists.proofs.PlaceLaws.{length-none}
 use Rattle.packing.specs.declared.report.Report.{Report}
 use Rattle.packing.specs.declared.report.Report.the-variants.{Noted}
 use Rattle.packing.specs.Room.{AllPack}
@@ -36,7 +37,7 @@ use Rattle.arrival.proofs.SweepLaws.{spared, sweep-sound, sweep-packs, sweep-fe
 use Rattle.series.specs.declared.Series.{Series}
 use Rattle.series.specs.Series.{soundSeries}
 use Rattle.series.specs.SoundSeries.{SoundPhase}
-use Rattle.series.proofs.TermsLaws.{phase-open, none-left}
+use Rattle.series.proofs.TermsLaws.{phase-open}
 use Rattle.series.proofs.SeriesFacts.{terms-market, facts-series}
 use Rattle.handler.specs.declared.Ask.{Ask}
 use Rattle.handler.specs.Asked.{askOf, enters}
@@ -75,7 +76,7 @@ module _ (m top phase : ℕ) (l : List Entry) (step : mpv m ≡ true) (low : top
     sound = sound-is m top (cancel-entry-sound party l so number);
     size = omega (arith, cancel-entry-length party number l);
     rests = record {
-      closed = λ p. none-left _ (omega (arith, cancel-entry-length party number l, ap length (f .closed p)));
+      closed = λ p. length-none _ (omega (arith, cancel-entry-length party number l, ap length (f .closed p)));
       halted = λ p. cut-all 28 l (λ (x : Entry). quote x ≡ false) (entryOf party number l) (f .halted p);
     };
     fit = cancel-entry-packs party l so number low;
@@ -87,7 +88,7 @@ module _ (m top phase : ℕ) (l : List Entry) (step : mpv m ≡ true) (low : top
     sound = sound-is m top (cancel-quote-sound party l so side);
     size = omega (arith, quote-length 28 party side l);
     rests = record {
-      closed = λ p. none-left _ (omega (arith, quote-length 28 party side l, ap length (f .closed p)));
+      closed = λ p. length-none _ (omega (arith, quote-length 28 party side l, ap length (f .closed p)));
       halted = λ p. quote-all 28 party side l (λ (x : Entry). quote x ≡ false) (f .halted p);
     };
     fit = cancel-quote-packs party l so side low;

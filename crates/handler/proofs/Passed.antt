@@ -3,17 +3,17 @@
 use Prim.Native.Nat.{ℕ, suc, _+_, _≤_, _<_}
 use mathlib.Core.Path.{_≡_, refl}
 use mathlib.Core.Bool.{Bool, true, false, cond, not, _&&_}
-use mathlib.Core.List.{List, [], _∷_}
+use mathlib.Core.List.{List}
 use native.Mathlib.Omega.{arith}
 use lib.Dec.{eqb, leb}
 use lib.ListN.{length}
 use borrow.Author.Tests.{leb-true, leb-false, le-leb, eqb-true, not-false}
 use Rattle.prices.specs.Step.{legal, given}
-use Rattle.lists.specs.Tests.{All, any}
+use Rattle.lists.specs.Tests.{any}
 use Rattle.lists.specs.Choose.{Found, nowhere, found}
 use Rattle.lists.specs.Run.{still}
-use Rattle.lists.proofs.Bools.{clash, and-left, and-right, cond-either}
-use Rattle.lists.proofs.TestLaws.{all-of}
+use Rattle.lists.proofs.Bools.{clash, and-left, and-right, cond-zero, cond-either}
+use Rattle.lists.proofs.TestLaws.{all-of, false-any}
 use Rattle.lists.proofs.ChooseLaws.{Tells}
 use Rattle.packing.specs.declared.message.Event.{Event}
 use Rattle.packing.specs.declared.message.Event.the-variants.{Plain, Mmlo, Mmalo, Mmrp, Displayed, Dark, CancelEntry, CancelQuote, Away, Underlying, Phase, Enable}
@@ -23,6 +23,7 @@ use Rattle.book.specs.Shape.{entriesOf}
 use Rattle.book.specs.Look.{quoteIn}
 use Rattle.book.proofs.LookLaws.{quote-tells}
 use Rattle.sound.specs.Sound.{between}
+use Rattle.sound.proofs.Decides.{between-both}
 use Rattle.arrival.specs.Cancel.{cut, cutQuote}
 use Rattle.arrival.specs.Arrive.{replaced}
 use Rattle.arrival.specs.Asks.{Arriving}
@@ -49,10 +50,6 @@ pub record Passed (s : Series) (a : Ask) : Type 0 where
   pub number : isSpent (s .terms .given) a ≡ false
   pub there : isMissing (entriesOf (s .book)) a ≡ false
 
-none-holds : (b : Bool) (n x : ℕ) → 1 ≤ n → cond b n x ≡ 0 → (b ≡ false) × (x ≡ 0)
-none-holds true n x k h = absurd (omega arith)
-none-holds false n x k h = (refl, h)
-
 pub passed : (s : Series) (a : Ask) → refusalOf s a ≡ 0 → Passed s a
 unfolding refusalOf
 passed s a h =
@@ -64,14 +61,14 @@ passed s a h =
     let x₅ : ℕ = cond (notOpen (s .terms .phase) a) 5 x₆ in
     let x₄ : ℕ = cond (badQuantity a) 4 x₅ in
     let x₃ : ℕ = cond (badPrice (s .terms .m) a) 3 x₄ in
-    let p₂ = none-holds (badParty a) 2 x₃ (omega arith) h in
-    let p₃ = none-holds (badPrice (s .terms .m) a) 3 x₄ (omega arith) (p₂ .1) in
-    let p₄ = none-holds (badQuantity a) 4 x₅ (omega arith) (p₃ .1) in
-    let p₅ = none-holds (notOpen (s .terms .phase) a) 5 x₆ (omega arith) (p₄ .1) in
-    let p₆ = none-holds (isBlocked (s .blocked) a) 6 x₇ (omega arith) (p₅ .1) in
-    let p₇ = none-holds (isFull l a) 7 x₉ (omega arith) (p₆ .1) in
-    let p₉ = none-holds (isSpent (s .terms .given) a) 9 x₈ (omega arith) (p₇ .1) in
-    let p₈ = none-holds (isMissing l a) 8 0 (omega arith) (p₉ .1) in
+    let p₂ = cond-zero (badParty a) 2 x₃ (omega arith) h in
+    let p₃ = cond-zero (badPrice (s .terms .m) a) 3 x₄ (omega arith) (p₂ .1) in
+    let p₄ = cond-zero (badQuantity a) 4 x₅ (omega arith) (p₃ .1) in
+    let p₅ = cond-zero (notOpen (s .terms .phase) a) 5 x₆ (omega arith) (p₄ .1) in
+    let p₆ = cond-zero (isBlocked (s .blocked) a) 6 x₇ (omega arith) (p₅ .1) in
+    let p₇ = cond-zero (isFull l a) 7 x₉ (omega arith) (p₆ .1) in
+    let p₉ = cond-zero (isSpent (s .terms .given) a) 9 x₈ (omega arith) (p₇ .1) in
+    let p₈ = cond-zero (isMissing l a) 8 0 (omega arith) (p₉ .1) in
     record { party = p₂ .0; price = p₃ .0; quantity = p₄ .0; opened = p₅ .0; free = p₆ .0; space = p₇ .0; number = p₉ .0; there = p₈ .0 }
 
 -- what an event asks is of kinds 1 to 12
@@ -101,22 +98,16 @@ accepts s e h k = record { sound = h; kind = ask-kind e .0; passes = k }
 -- ---- what the tests say ----
 
 within : (low high x : ℕ) → not (between low high x) ≡ false → (low ≤ x) × (x ≤ high)
-within low high x h =
-    let k : between low high x ≡ true = not-false (between low high x) h in
-    (leb-true low x (and-left (leb low x) (leb x high) k), leb-true x high (and-right (leb low x) (leb x high) k))
+within low high x h = between-both low high x (not-false (between low high x) h)
 
 -- of a quote that is to be replaced, there is one
 cut-one : (why party : ℕ) (side : Bool) (l : List Entry) → any (quoteOf party side) l ≡ true → length l ≡ suc (length (cutQuote why party side l .final))
 unfolding any cut still
 cut-one why party side l h = at (quoteIn party side l) (quote-tells l party side) (quote-length why party side l)
   where
-    nobody : (l : List Entry) → All (λ (x : Entry). quoteOf party side x ≡ false) l → any (quoteOf party side) l ≡ false
-    nobody [] a = refl
-    nobody (x ∷ l) a = rw (a .0) (nobody l (a .1))
-
     at : (f : Found Entry) → Tells (quoteOf party side) (λ _. 0) l f → length (cut why l f .final) + length (cut why l f .records) ≡ length l
         → length l ≡ suc (length (cut why l f .final))
-    at nowhere c k = clash h (nobody l (all-of (λ (x : Entry). quoteOf party side x ≡ false) l (λ i x z. c .nobody i x z)))
+    at nowhere c k = clash h (false-any (quoteOf party side) l (all-of (λ (x : Entry). quoteOf party side x ≡ false) l (λ i x z. c .nobody i x z)))
     at (found i e) c k = omega arith
 
 -- "64 entries rest, not counting the quote this one replaces"

@@ -8,20 +8,14 @@ use checking::figures::has_quote;
 use prices::step::is_given;
 use prices::step::is_legal;
 use series::Series;
+use series::soundness::is_between;
 ghost use mathlib.Core.Path.{_≡_};
 ghost use mathlib.Core.Bool.{true, false};
 ghost use lib.ListN.{length};
 ghost use Rattle.prices.specs.Step.{mpv};
 ghost use Rattle.book.specs.Shape.{entriesOf, WellFormed};
-ghost use Rattle.sound.specs.Sound.{between};
 ghost use Rattle.checking.specs.Summary.{Summary};
 ghost use Rattle.handler.specs.Refuse.{makersOnly, badParty, badPrice, badQuantity, notOpen, isBlocked, isFull, isSpent, isMissing, goneAt, refusalOf};
-
-fn is_between(low: u32, high: u32, x: u32) -> bool
-    ensures { λ r. ⌜ r ≡ between low high x ⌝ }
-{
-    (low <= x) & (x <= high)
-}
 
 fn is_makers_only(a: Ask) -> bool
     ensures { λ r. ⌜ r ≡ makersOnly a ⌝ }

@@ -10,7 +10,7 @@ use borrow.Author.Tests.{leb-true, eq-eqb, ne-eqb}
 use lib.Dec.{eqb}
 use lib.ListN.{length, take, drop, length-append}
 use Rattle.bits.specs.Fields.{Fit, Narrow, Bytes}
-use Rattle.bits.proofs.ByteLaws.{bytes-drop}
+use Rattle.bits.proofs.ByteLaws.{bytes-take, bytes-drop}
 use Rattle.packing.specs.declared.report.Report.{Report}
 use Rattle.packing.specs.declared.report.Report.the-variants.{Noted, Rejected, Traded, Rested, Repriced, Cancelled}
 use Rattle.packing.specs.Codec.{unpackOf, packs}
@@ -68,12 +68,6 @@ place-short number s n b = by-cases (unpackOf reports s) refl
     by-cases : (u : Option Report) → unpackOf reports s ≡ u → length (lineOf number u) ≤ 120
     by-cases none e = omega arith
     by-cases (some r) e = report-short number r n (packed-bytes reports r s (unpack-pack reports lawful s r b e) .0)
-
-bytes-take : (n : ℕ) (s : List ℕ) → Bytes s → Bytes (take n s)
-bytes-take zero s b i = omega arith
-bytes-take (suc n) [] b i = omega arith
-bytes-take (suc n) (x ∷ s) b zero = b zero
-bytes-take (suc n) (x ∷ s) b (suc i) = bytes-take n s (λ j. b (suc j)) i
 
 lines-short : (number count : ℕ) (room : List ℕ) → number < 2 ^ 64 → Bytes room → length (reportLines number (readBack count room)) ≤ 120 * count
 lines-short number zero room n b = omega arith

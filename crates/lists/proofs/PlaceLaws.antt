@@ -51,6 +51,10 @@ module _ {A : Type 0} where
 
   -- ---- lengths ----
 
+  pub length-none : (l : List A) → length l ≡ 0 → l ≡ []
+  length-none [] h = refl
+  length-none (x ∷ l) h = absurd (omega arith)
+
   pub length-snoc : (l : List A) (x : A) → length (l ++ (x ∷ [])) ≡ suc (length l)
   length-snoc [] x = refl
   length-snoc (y ∷ l) x = ap suc (length-snoc l x)

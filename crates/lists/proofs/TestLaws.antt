@@ -60,6 +60,11 @@ module _ {A : Type 0} where
   any-false test [] e = tt
   any-false test (x ∷ l) e = (or-false-left (test x) (any test l) e, any-false test l (or-false-right (test x) (any test l) e))
 
+  pub false-any : (test : A → Bool) (l : List A) → All (λ (x : A). test x ≡ false) l → any test l ≡ false
+  unfolding any
+  false-any test [] a = refl
+  false-any test (x ∷ l) a = rw (a .0) (false-any test l (a .1))
+
   pub pairs-true : (test : A → A → Bool) (x : A) (l : List A) → pairs test (x ∷ l) ≡ true → (all (test x) l ≡ true) × (pairs test l ≡ true)
   unfolding pairs
   pairs-true test x l e = (and-left (all (test x) l) (pairs test l) e, and-right (all (test x) l) (pairs test l) e)

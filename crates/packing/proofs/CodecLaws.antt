@@ -20,7 +20,7 @@ pub bit-is : (b : Bool) → eqb (bit b) 1 ≡ b
 bit-is true = refl
 bit-is false = refl
 
-onlyIf-some : {A : Type 0} (b : Bool) (u : Option A) (a : A) → onlyIf b u ≡ some a → (b ≡ true) × (u ≡ some a)
+pub onlyIf-some : {A : Type 0} (b : Bool) (u : Option A) (a : A) → onlyIf b u ≡ some a → (b ≡ true) × (u ≡ some a)
 onlyIf-some true u a h = (refl, h)
 onlyIf-some false u a h = absurd (let z : _≡_ {A = ℕ} 0 1 = cc in omega arith)
 

@@ -74,7 +74,7 @@ was-refused (some s) p e h =
     absurd (let g : p .ok ≡ true = ap (λ (q : Packed). q .ok) e in let z : _≡_ {A = ℕ} 0 1 = cc in omega arith)
 
 -- WHICH REPORTS PACK, from bounds on their numbers
-bit-small : (b : Bool) → bit b < 2
+pub bit-small : (b : Bool) → bit b < 2
 bit-small true = omega arith
 bit-small false = omega arith
 

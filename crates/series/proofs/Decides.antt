@@ -3,14 +3,14 @@
 -- Assumes nothing.
 use mathlib.Core.Path.{_≡_}
 use mathlib.Core.Bool.{true, _&&_}
-use Rattle.lists.proofs.Bools.{and-both}
+use Rattle.lists.proofs.Bools.{and-parts, and-both}
 use Rattle.book.specs.Shape.{entriesOf}
 use Rattle.sound.specs.Sound.{soundBook}
 use Rattle.checking.proofs.Decides.{sound-decides}
 use Rattle.series.specs.declared.Series.{Series}
 use Rattle.series.specs.Series.{soundTerms, soundPhase, soundSeries}
 use Rattle.series.specs.SoundSeries.{SoundSeries}
-use Rattle.series.proofs.TermsLaws.{both, terms-facts, facts-terms, phase-facts, facts-phase}
+use Rattle.series.proofs.TermsLaws.{terms-facts, facts-terms, phase-facts, facts-phase}
 
 module _ (s : Series) where
   -- the three tests that the test of a series is made of
@@ -24,8 +24,8 @@ module _ (s : Series) where
   passes h =
       let book = soundBook (s .terms .m) (s .terms .given) (s .book) in
       let phase = soundPhase (s .terms .phase) (entriesOf (s .book)) in
-      let a = both (soundTerms (s .terms)) (book && phase) h in
-      let b = both book phase (a .1) in
+      let a = and-parts (soundTerms (s .terms)) (book && phase) h in
+      let b = and-parts book phase (a .1) in
       record { terms = a .0; book = b .0; phase = b .1 }
 
   pub passed : Passes → soundSeries s ≡ true

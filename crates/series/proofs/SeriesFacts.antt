@@ -11,7 +11,7 @@ use lib.Seq.{drop-append-seam}
 use borrow.Author.Tests.{leb-true, le-leb}
 use Rattle.prices.specs.Step.{mpv}
 use Rattle.lists.specs.Tests.{all}
-use Rattle.lists.proofs.Bools.{and-both}
+use Rattle.lists.proofs.Bools.{and-parts, and-both}
 use Rattle.book.specs.declared.Entry.{Entry}
 use Rattle.book.specs.declared.Book.{Book}
 use Rattle.book.specs.Shape.{zeroEntry, entriesOf, bookOf}
@@ -23,7 +23,7 @@ use Rattle.arrival.specs.Terms.{marketOf}
 use Rattle.series.specs.declared.Series.{Series}
 use Rattle.series.specs.Series.{soundSeries}
 use Rattle.series.specs.SoundSeries.{LegalTerms, SoundPhase, SoundSeries}
-use Rattle.series.proofs.TermsLaws.{both, step-mpv, price-given, facts-terms, facts-phase}
+use Rattle.series.proofs.TermsLaws.{step-mpv, price-given, facts-terms, facts-phase}
 use Rattle.series.proofs.Decides.{passes, passed, sound-series-decides}
 
 -- ---- the book ----
@@ -33,9 +33,9 @@ module _ (m top : ℕ) where
   book-entries : (b : Book) → soundBook m top b ≡ true → (soundEntries m top (entriesOf b) ≡ true) × (length (entriesOf b) ≤ 64)
   unfolding soundBook entriesOf
   book-entries b h =
-      let a = both (leb (b .count) 64) (soundEntries m top (entriesOf b) && all unusedEntry (drop (b .count) (b .entries))) h in
+      let a = and-parts (leb (b .count) 64) (soundEntries m top (entriesOf b) && all unusedEntry (drop (b .count) (b .entries))) h in
       let n : b .count ≤ 64 = leb-true (b .count) 64 (a .0) in
-      (both (soundEntries m top (entriesOf b)) (all unusedEntry (drop (b .count) (b .entries))) (a .1) .0, simp length-take (omega arith))
+      (and-parts (soundEntries m top (entriesOf b)) (all unusedEntry (drop (b .count) (b .entries))) (a .1) .0, simp length-take (omega arith))
 
   zeros-unused : (n : ℕ) → all unusedEntry (replicate n zeroEntry) ≡ true
   unfolding all

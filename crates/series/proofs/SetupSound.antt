@@ -17,24 +17,21 @@ use Rattle.prices.proofs.StepLaws.{is-mpv}
 use Rattle.lists.specs.Tests.{all, pairs}
 use Rattle.lists.proofs.Bools.{and-left, and-right}
 use Rattle.packing.specs.declared.setup.Setup.{Setup}
-use Rattle.packing.specs.Codec.{onlyIf, fieldsIn, checked, thingOf, unpackOf}
+use Rattle.packing.specs.Codec.{fieldsIn, checked, thingOf, unpackOf}
+use Rattle.packing.proofs.CodecLaws.{onlyIf-some}
 use Rattle.packing.specs.Setup.{codeOf, legal, setups}
 use Rattle.sound.specs.Sound.{between, soundEntries}
-use Rattle.checking.proofs.ClauseLaws.{between-both}
+use Rattle.sound.proofs.Decides.{between-both}
 use Rattle.series.specs.Series.{newSeries, noSeries, opened, soundTerms, soundSeries}
 use Rattle.series.specs.SoundSeries.{SoundSeries}
 use Rattle.series.proofs.TermsLaws.{mpv-step}
 use Rattle.series.proofs.Decides.{sound-series-decides}
 use Rattle.series.proofs.SeriesFacts.{facts-series}
 
-only-some : {A : Type 0} (b : Bool) (u : Option A) (a : A) → onlyIf b u ≡ some a → (b ≡ true) × (u ≡ some a)
-only-some true u a h = (refl, h)
-only-some false u a h = absurd (let z : _≡_ {A = ℕ} 0 1 = cc in omega arith)
-
 -- "Setup of other length or values is refused": what unpacks has legal values
 pub setup-legal : (bytes : List ℕ) (x : Setup) → unpackOf setups bytes ≡ some x → legal x ≡ true
 unfolding unpackOf thingOf
-setup-legal bytes x h = go (setups .claimed (fieldsIn setups bytes)) (only-some (eqb (length bytes) 4) (thingOf setups (fieldsIn setups bytes)) x h .1)
+setup-legal bytes x h = go (setups .claimed (fieldsIn setups bytes)) (onlyIf-some (eqb (length bytes) 4) (thingOf setups (fieldsIn setups bytes)) x h .1)
   where
     l : List ℕ
     l = fieldsIn setups bytes
@@ -42,7 +39,7 @@ setup-legal bytes x h = go (setups .claimed (fieldsIn setups bytes)) (only-some 
     go : (u : Option Setup) → checked setups u l ≡ some x → legal x ≡ true
     go none k = absurd (let z : _≡_ {A = ℕ} 0 1 = cc in omega arith)
     go (some d) k =
-        let p = only-some (equal (codeOf d) l && legal d) (some d) x k in
+        let p = onlyIf-some (equal (codeOf d) l && legal d) (some d) x k in
         let q : some d ≡ some x = p .1 in
         let same : d ≡ x = cc in
         ap legal (sym same) ∙ and-right (equal (codeOf d) l) (legal d) (p .0)

@@ -3,7 +3,7 @@
 use Prim.Native.Nat.{ℕ, _≤_}
 use mathlib.Core.Path.{_≡_, refl}
 use mathlib.Core.Bool.{Bool, true, false, cond, not, _&&_, _||_}
-use mathlib.Core.List.{List, [], _∷_}
+use mathlib.Core.List.{List}
 use mathlib.Core.Logic.{_⊎_, inl, inr}
 use native.Mathlib.Omega.{arith}
 use lib.Dec.{eqb, leb}
@@ -11,20 +11,18 @@ use lib.ListN.{length}
 use borrow.Author.Tests.{leb-true, le-leb, eqb-true, not-true}
 use Rattle.prices.specs.Step.{mpv, legal, given}
 use Rattle.prices.proofs.StepLaws.{Mpv, cent, nickel, dime, is-mpv}
-use Rattle.lists.specs.Tests.{All, any}
-use Rattle.lists.proofs.Bools.{and-left, and-right}
-use Rattle.lists.proofs.TestLaws.{any-false}
+use Rattle.lists.specs.Tests.{any}
+use Rattle.lists.proofs.Bools.{and-parts}
+use Rattle.lists.proofs.PlaceLaws.{length-none}
+use Rattle.lists.proofs.TestLaws.{any-false, false-any}
 use Rattle.book.specs.declared.Entry.{Entry}
 use Rattle.book.specs.Entries.{quote}
 use Rattle.sound.specs.Sound.{between}
-use Rattle.checking.proofs.ClauseLaws.{between-both, both-between}
+use Rattle.sound.proofs.Decides.{between-both, both-between}
 use Rattle.checking.proofs.DecideLaws.{legal-price, price-legal}
 use Rattle.arrival.specs.declared.Terms.{Terms}
 use Rattle.series.specs.Series.{soundTerms, soundPhase}
 use Rattle.series.specs.SoundSeries.{NoneOrLegal, LegalTerms, SoundPhase}
-
-pub both : (a b : Bool) → (a && b) ≡ true → (a ≡ true) × (b ≡ true)
-both a b e = (and-left a b e, and-right a b e)
 
 -- ---- a series' numbers ----
 
@@ -65,13 +63,13 @@ module _ (t : Terms) where
       let h₅ : Bool = given (t .m) (t .bid) && h₆ in
       let h₄ : Bool = leb (t .phase) 2 && h₅ in
       let h₃ : Bool = between 1 100000 (t .strike) && h₄ in
-      let a = both (mpv (t .m)) (leb (t .k) 100 && h₃) h in
-      let b = both (leb (t .k) 100) h₃ (a .1) in
-      let c = both (between 1 100000 (t .strike)) h₄ (b .1) in
-      let d = both (leb (t .phase) 2) h₅ (c .1) in
-      let e = both (given (t .m) (t .bid)) h₆ (d .1) in
-      let f = both (given (t .m) (t .offer)) h₇ (e .1) in
-      let g = both (leb (t .underlying) 100000) (leb (t .given) 1000000) (f .1) in (
+      let a = and-parts (mpv (t .m)) (leb (t .k) 100 && h₃) h in
+      let b = and-parts (leb (t .k) 100) h₃ (a .1) in
+      let c = and-parts (between 1 100000 (t .strike)) h₄ (b .1) in
+      let d = and-parts (leb (t .phase) 2) h₅ (c .1) in
+      let e = and-parts (given (t .m) (t .bid)) h₆ (d .1) in
+      let f = and-parts (given (t .m) (t .offer)) h₇ (e .1) in
+      let g = and-parts (leb (t .underlying) 100000) (leb (t .given) 1000000) (f .1) in (
         record {
           step = mpv-step (is-mpv (t .m) (a .0));
           steps = leb-true (t .k) 100 (b .0);
@@ -99,19 +97,10 @@ module _ (t : Terms) where
 
 -- ---- the phase ----
 
-pub none-left : (l : List Entry) → length l ≡ 0 → l ≡ []
-none-left [] h = refl
-none-left (x ∷ l) h = absurd (omega arith)
-
-none-any : (test : Entry → Bool) (l : List Entry) → All (λ (x : Entry). test x ≡ false) l → any test l ≡ false
-unfolding any
-none-any test [] a = refl
-none-any test (x ∷ l) a = rw (a .0) (none-any test l (a .1))
-
 pub phase-facts : (phase : ℕ) (l : List Entry) → soundPhase phase l ≡ true → SoundPhase phase l
 unfolding soundPhase
 phase-facts phase l h = record {
-  closed = λ p. none-left l (eqb-true (length l) 0 (rw p at h));
+  closed = λ p. length-none l (eqb-true (length l) 0 (rw p at h));
   halted = λ p. any-false quote l (not-true (any quote l) (rw p at h));
 }
 
@@ -121,7 +110,7 @@ facts-phase phase l f = go (eqb phase 0) refl (eqb phase 2) refl
   where
     go : (a : Bool) → eqb phase 0 ≡ a → (b : Bool) → eqb phase 2 ≡ b → cond a (eqb (length l) 0) (cond b (not (any quote l)) true) ≡ true
     go true p b q = rw (f .closed (eqb-true phase 0 p)) refl
-    go false p true q = rw (none-any quote l (f .halted (eqb-true phase 2 q))) refl
+    go false p true q = rw (false-any quote l (f .halted (eqb-true phase 2 q))) refl
     go false p false q = refl
 
 -- an open series may hold anything

@@ -11,7 +11,8 @@ ghost use Rattle.series.specs.Series.{soundTerms};
 ghost use Rattle.sound.specs.Sound.{between};
 ghost use Rattle.series.specs.Checks.{phaseWith, Tested};
 
-fn is_between(low: u32, high: u32, x: u32) -> bool
+// From low to high, ends included.
+pub fn is_between(low: u32, high: u32, x: u32) -> bool
     ensures { λ r. ⌜ r ≡ between low high x ⌝ }
 {
     (low <= x) & (x <= high)

@@ -1,7 +1,7 @@
 -- THE TESTS ARE THE FACTS: the entries that rest pass every test of specs/Sound exactly where the facts hold of them.
 -- Assumes nothing.
 use Prim.Native.Nat.{ℕ, _≤_, _<_}
-use mathlib.Core.Path.{_≡_, refl, sym}
+use mathlib.Core.Path.{_≡_, refl}
 use mathlib.Core.Bool.{Bool, true, false, not, _&&_, _||_, Bool·beq}
 use mathlib.Core.List.{List, [], _∷_}
 use native.Mathlib.Omega.{arith}
@@ -14,7 +14,7 @@ use Rattle.prices.proofs.FrameLaws.{seen, Facing}
 use Rattle.prices.proofs.StepLaws.{Mpv, Legal, is-mpv, is-legal, legal-is}
 use Rattle.prices.proofs.RestLaws.{is-slides, slides-is}
 use Rattle.lists.specs.Tests.{All, all, pairs}
-use Rattle.lists.proofs.Bools.{clash, and-left, and-right, and-both}
+use Rattle.lists.proofs.Bools.{clash, and-left, and-right, and-parts, and-both, beq-true, eq-beq}
 use Rattle.lists.proofs.TestLaws.{all-map, all-zip, all-true, true-all, pairs-true}
 use Rattle.book.specs.declared.Entry.{Entry}
 use Rattle.book.specs.declared.Pricing.{Pricing}
@@ -23,14 +23,12 @@ use Rattle.book.specs.Entries.{quote}
 use Rattle.sound.specs.Sound.{between, numbered, kinded, partied, sized, pricedAs, pricedWell, soundEntry, distinct, oneQuote, uncrossedAs, uncrossed, soundPair, soundEntries}
 use Rattle.sound.proofs.Facts.{PricedAs, EntryFacts, PairFacts, EachTwo, Sound}
 
-both : (a b : Bool) → (a && b) ≡ true → (a ≡ true) × (b ≡ true)
-both a b e = (and-left a b e, and-right a b e)
+-- from low to high
+pub between-both : (low high x : ℕ) → between low high x ≡ true → (low ≤ x) × (x ≤ high)
+between-both low high x h = (leb-true low x (and-left (leb low x) (leb x high) h), leb-true x high (and-right (leb low x) (leb x high) h))
 
-within : (low high x : ℕ) → between low high x ≡ true → (low ≤ x) × (x ≤ high)
-within low high x e = (leb-true low x (and-left (leb low x) (leb x high) e), leb-true x high (and-right (leb low x) (leb x high) e))
-
-is-within : (low high x : ℕ) → low ≤ x → x ≤ high → between low high x ≡ true
-is-within low high x a b = rw (le-leb low x a, le-leb x high b)
+pub both-between : (low high x : ℕ) → (low ≤ x) × (x ≤ high) → between low high x ≡ true
+both-between low high x h = and-both (leb low x) (leb x high) (le-leb low x (h .0)) (le-leb x high (h .1))
 
 -- ---- the prices of an entry ----
 
@@ -38,11 +36,11 @@ module _ (m kind : ℕ) (s : Bool) (limit w : ℕ) (a : Legal m limit) where
   priced-facts : (p : Pricing) → pricedAs m kind s limit w p ≡ true → PricedAs m kind s limit w p
   unfolding pricedAs
   priced-facts Fixed h =
-      let x = both (not (sliding kind) && not (eqb kind 6)) (eqb w limit) h in
-      let y = both (not (sliding kind)) (not (eqb kind 6)) (x .0) in
+      let x = and-parts (not (sliding kind) && not (eqb kind 6)) (eqb w limit) h in
+      let y = and-parts (not (sliding kind)) (not (eqb kind 6)) (x .0) in
       record { rigid = not-true (sliding kind) (y .0); shown = eqb-false kind 6 (not-true (eqb kind 6) (y .1)); at = eqb-true w limit (x .1) }
-  priced-facts Dark h = let x = both (eqb kind 6) (eqb w limit) h in record { dark = eqb-true kind 6 (x .0); at = eqb-true w limit (x .1) }
-  priced-facts (Sliding d) h = let x = both (sliding kind) (slides m s limit d w) h in record { able = x .0; slides = is-slides s limit d w a (x .1) }
+  priced-facts Dark h = let x = and-parts (eqb kind 6) (eqb w limit) h in record { dark = eqb-true kind 6 (x .0); at = eqb-true w limit (x .1) }
+  priced-facts (Sliding d) h = let x = and-parts (sliding kind) (slides m s limit d w) h in record { able = x .0; slides = is-slides s limit d w a (x .1) }
 
   facts-priced : Mpv m → (p : Pricing) → PricedAs m kind s limit w p → pricedAs m kind s limit w p ≡ true
   unfolding pricedAs
@@ -61,16 +59,16 @@ module _ (m top : ℕ) (e : Entry) where
   pub entry-facts : soundEntry m top e ≡ true → EntryFacts m top e
   unfolding soundEntry
   entry-facts h =
-      let a = both (numbered top e) (kinded e && (partied e && (sized m e && pricedWell m e))) h in
-      let b = both (kinded e) (partied e && (sized m e && pricedWell m e)) (a .1) in
-      let c = both (partied e) (sized m e && pricedWell m e) (b .1) in
-      let d = both (sized m e) (pricedWell m e) (c .1) in
-      let n = within 1 top (e .number) (a .0) in
-      let k = within 1 6 (e .kind) (b .0) in
-      let p = both (between 1 99 (e .party)) (not (quote e) || leb (e .party) 16) (c .0) in
-      let q = within 1 99 (e .party) (p .0) in
-      let z = both (legal m (e .limit)) (between 1 99999 (e .quantity)) (d .0) in
-      let u = within 1 99999 (e .quantity) (z .1) in
+      let a = and-parts (numbered top e) (kinded e && (partied e && (sized m e && pricedWell m e))) h in
+      let b = and-parts (kinded e) (partied e && (sized m e && pricedWell m e)) (a .1) in
+      let c = and-parts (partied e) (sized m e && pricedWell m e) (b .1) in
+      let d = and-parts (sized m e) (pricedWell m e) (c .1) in
+      let n = between-both 1 top (e .number) (a .0) in
+      let k = between-both 1 6 (e .kind) (b .0) in
+      let p = and-parts (between 1 99 (e .party)) (not (quote e) || leb (e .party) 16) (c .0) in
+      let q = between-both 1 99 (e .party) (p .0) in
+      let z = and-parts (legal m (e .limit)) (between 1 99999 (e .quantity)) (d .0) in
+      let u = between-both 1 99999 (e .quantity) (z .1) in
       let l : Legal m (e .limit) = is-legal m (e .limit) (z .0) in
       let f : PricedAs m (e .kind) (e .sell) (e .limit) (e .working) (e .pricing) =
       priced-facts m (e .kind) (e .sell) (e .limit) (e .working) l (e .pricing) (d .1) in
@@ -92,12 +90,12 @@ module _ (m top : ℕ) (e : Entry) where
   pub facts-entry : Mpv m → EntryFacts m top e → soundEntry m top e ≡ true
   unfolding soundEntry
   facts-entry v f = rw (
-    is-within 1 top (e .number) (f .counted) (f .given),
-    is-within 1 6 (e .kind) (f .kind-low) (f .kind-high),
-    is-within 1 99 (e .party) (f .party-low) (f .party-high),
+    both-between 1 top (e .number) (f .counted, f .given),
+    both-between 1 6 (e .kind) (f .kind-low, f .kind-high),
+    both-between 1 99 (e .party) (f .party-low, f .party-high),
     maker (quote e) refl,
     legal-is (f .limit),
-    is-within 1 99999 (e .quantity) (f .some) (f .most),
+    both-between 1 99999 (e .quantity) (f .some, f .most),
     facts-priced m (e .kind) (e .sell) (e .limit) (e .working) (f .limit) v (e .pricing) (f .prices),
   )
     where
@@ -106,16 +104,6 @@ module _ (m top : ℕ) (e : Entry) where
       maker false q = rw q
 
 -- ---- two entries ----
-
-beq-same : (s t : Bool) → s ≡ t → Bool·beq s t ≡ true
-beq-same true t e = rw (← e)
-beq-same false t e = rw (← e)
-
-same-beq : (s t : Bool) → Bool·beq s t ≡ true → s ≡ t
-same-beq true true e = refl
-same-beq true false e = sym e
-same-beq false true e = e
-same-beq false false e = refl
 
 clear-facts : (s t : Bool) (p q : ℕ) → p ≤ 100000 → q ≤ 100000 → uncrossedAs s t p q ≡ true → Facing s t → seen s p < seen s q
 unfolding seen
@@ -135,14 +123,14 @@ module _ (x y : Entry) where
   pub pair-facts : x .working ≤ 100000 → y .working ≤ 100000 → soundPair x y ≡ true → PairFacts x y
   unfolding soundPair
   pair-facts wx wy h =
-      let a = both (distinct x y) (oneQuote x y && uncrossed x y) h in
-      let b = both (oneQuote x y) (uncrossed x y) (a .1) in
+      let a = and-parts (distinct x y) (oneQuote x y && uncrossed x y) h in
+      let b = and-parts (oneQuote x y) (uncrossed x y) (a .1) in
       record {
         other = eqb-false (x .number) (y .number) (not-true (eqb (x .number) (y .number)) (a .0));
         one-quote = λ u v p s. clash
             (and-both (quote x) (quote y && (eqb (x .party) (y .party) && Bool·beq (x .sell) (y .sell))) u
             (and-both (quote y) (eqb (x .party) (y .party) && Bool·beq (x .sell) (y .sell)) v
-            (and-both (eqb (x .party) (y .party)) (Bool·beq (x .sell) (y .sell)) (eq-eqb (x .party) (y .party) p) (beq-same (x .sell) (y .sell) s))))
+            (and-both (eqb (x .party) (y .party)) (Bool·beq (x .sell) (y .sell)) (eq-eqb (x .party) (y .party) p) (eq-beq (x .sell) (y .sell) s))))
             (not-true (quote x && (quote y && (eqb (x .party) (y .party) && Bool·beq (x .sell) (y .sell)))) (b .0));
         apart = record { clear = clear-facts (x .sell) (y .sell) (x .working) (y .working) wx wy (b .1) };
       }
@@ -157,7 +145,7 @@ module _ (x y : Entry) where
     where
       one : (a : Bool) → quote x ≡ a → (b : Bool) → quote y ≡ b → (c : Bool) → eqb (x .party) (y .party) ≡ c
           → (d : Bool) → Bool·beq (x .sell) (y .sell) ≡ d → oneQuote x y ≡ true
-      one true p true q true r true t = absurd (f .one-quote p q (eqb-true (x .party) (y .party) r) (same-beq (x .sell) (y .sell) t))
+      one true p true q true r true t = absurd (f .one-quote p q (eqb-true (x .party) (y .party) r) (beq-true (x .sell) (y .sell) t))
       one false p b q c r d t = rw p
       one true p false q c r d t = rw (p, q)
       one true p true q false r d t = rw (p, q, r)
@@ -182,7 +170,7 @@ module _ (m top : ℕ) where
   pub is-sound : (l : List Entry) → mpv m ≡ true → soundEntries m top l ≡ true → Sound m top l
   unfolding soundEntries
   is-sound l v h =
-      let p = both (all (soundEntry m top) l) (pairs soundPair l) h in
+      let p = and-parts (all (soundEntry m top) l) (pairs soundPair l) h in
       let a : All (EntryFacts m top) l = all-map (λ e t. entry-facts m top e t) l (all-true (soundEntry m top) l (p .0)) in
       record { step = is-mpv m v; entries = a; pairs = two-facts l a (p .1) }
 

@@ -2,7 +2,7 @@
 -- Assumes nothing.
 use Prim.Native.Nat.{ℕ, zero, suc, _*_}
 use mathlib.Core.Path.{_≡_, refl, sym, ap, ap₂, _∙_}
-use mathlib.Core.Bool.{Bool, true, false, _&&_}
+use mathlib.Core.Bool.{Bool, true, _&&_}
 use mathlib.Core.List.{List, [], _∷_, _++_}
 use mathlib.Core.Option.{Option, none, some}
 use native.Mathlib.Omega.{arith}
@@ -12,10 +12,11 @@ use lib.Seq.{take-at, drop-at}
 use borrow.Author.Tests.{eqb-true, eq-eqb}
 use Rattle.lists.specs.Tests.{all}
 use Rattle.lists.proofs.Bools.{and-left, and-right}
+use Rattle.lists.proofs.PlaceLaws.{length-none}
 use Rattle.bits.specs.Fields.{Bytes}
-use Rattle.bits.proofs.ByteLaws.{bytes-drop}
+use Rattle.bits.proofs.ByteLaws.{bytes-take, bytes-drop}
 use Rattle.packing.specs.Codec.{onlyIf, bytesOf, packs, unpackOf}
-use Rattle.packing.proofs.CodecLaws.{unpack-pack, pack-unpack, packed-bytes, pack-packs, length-bytes}
+use Rattle.packing.proofs.CodecLaws.{onlyIf-some, unpack-pack, pack-unpack, packed-bytes, pack-packs, length-bytes}
 use Rattle.book.specs.declared.Entry.{Entry}
 use Rattle.series.specs.declared.Series.{Series}
 use Rattle.state.specs.declared.Header.{Header}
@@ -28,10 +29,6 @@ use Rattle.state.proofs.PlacesLaws.{length-entry, length-entries}
 use Rattle.state.proofs.StateLaws.{fit-parts}
 
 -- ---- what an answer that is none or some tells ----
-
-only-some : {A : Type 0} (b : Bool) (u : Option A) (a : A) → onlyIf b u ≡ some a → (b ≡ true) × (u ≡ some a)
-only-some true u a h = (refl, h)
-only-some false u a h = absurd (let z : _≡_ {A = ℕ} 0 1 = cc in omega arith)
 
 record Joined (u : Option Entry) (v : Option (List Entry)) (es : List Entry) : Type 0 where
   one : Entry
@@ -57,18 +54,6 @@ made-some none v s h = absurd (let z : _≡_ {A = ℕ} 0 1 = cc in omega arith)
 made-some (some h) none s q = absurd (let z : _≡_ {A = ℕ} 0 1 = cc in omega arith)
 made-some (some h) (some l) s q = let w : seriesOf h l ≡ s = cc in record { header = h; places = l; is-header = refl; is-places = refl; whole = sym w }
 
--- ---- bytes ----
-
-bytes-take : (n : ℕ) (s : List ℕ) → Bytes s → Bytes (take n s)
-bytes-take zero s b i = omega arith
-bytes-take (suc n) [] b i = b i
-bytes-take (suc n) (x ∷ s) b zero = b 0
-bytes-take (suc n) (x ∷ s) b (suc i) = bytes-take n s (λ (k : ℕ). b (suc k)) i
-
-none-long : (s : List ℕ) → length s ≡ 0 → s ≡ []
-none-long [] h = refl
-none-long (x ∷ s) h = absurd (omega (arith, h))
-
 -- ---- entries ----
 
 pub record Placed (n : ℕ) (s : List ℕ) (es : List Entry) : Type 0 where
@@ -80,7 +65,7 @@ entries-pack : (n : ℕ) (s : List ℕ) (es : List Entry) → Bytes s → length
 unfolding entriesIn entriesBytes all
 entries-pack zero s es b l h =
     let q : _≡_ {A = List Entry} [] es = cc in
-    record { number = ap length (sym q); pack = ap (all (packs entries)) (sym q); bytes = ap entriesBytes (sym q) ∙ sym (none-long s (omega (arith, l))) }
+    record { number = ap length (sym q); pack = ap (all (packs entries)) (sym q); bytes = ap entriesBytes (sym q) ∙ sym (length-none s (omega (arith, l))) }
 entries-pack (suc n) s es b l h =
     let j = joined-some (unpackOf entries (take 24 s)) (entriesIn n (drop 24 s)) es h in
     let p = packed-bytes entries (j .one) (take 24 s) (unpack-pack entries of-entry.lawful (take 24 s) (j .one) (bytes-take 24 s b) (j .is-one)) in
@@ -107,7 +92,7 @@ entries-unpack (e ∷ es) h =
 pub series-pack : (s : List ℕ) (x : Series) → Bytes s → unpackSeries s ≡ some x → packSeries x ≡ some s
 unfolding unpackSeries packSeries seriesBytes
 series-pack s x b h =
-    let p = only-some (eqb (length s) 1564) (made (unpackOf headers (take 28 s)) (entriesIn 64 (drop 28 s))) x h in
+    let p = onlyIf-some (eqb (length s) 1564) (made (unpackOf headers (take 28 s)) (entriesIn 64 (drop 28 s))) x h in
     let long : length s ≡ 1564 = eqb-true (length s) 1564 (p .0) in
     let m = made-some (unpackOf headers (take 28 s)) (entriesIn 64 (drop 28 s)) x (p .1) in
     let f = packed-bytes headers (m .header) (take 28 s) (unpack-pack headers of-header.lawful (take 28 s) (m .header) (bytes-take 28 s b) (m .is-header)) in
@@ -121,7 +106,7 @@ series-pack s x b h =
 pub pack-series : (x : Series) (s : List ℕ) → packSeries x ≡ some s → unpackSeries s ≡ some x
 unfolding unpackSeries packSeries packsSeries seriesBytes
 pack-series x s h =
-    let p = only-some (packsSeries x) (some (seriesBytes x)) s h in
+    let p = onlyIf-some (packsSeries x) (some (seriesBytes x)) s h in
     let q : some (seriesBytes x) ≡ some s = p .1 in
     let is : seriesBytes x ≡ s = cc in
     let first = and-left (packs headers (headerOf x)) _ (p .0) in

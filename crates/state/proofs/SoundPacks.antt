@@ -17,6 +17,7 @@ use Rattle.lists.proofs.TestLaws.{all-map, all-append, all-true, true-all}
 use Rattle.bits.specs.Fields.{Fit}
 use Rattle.packing.specs.Codec.{bit, onlyIf, packs}
 use Rattle.packing.proofs.CodecLaws.{fit-packs}
+use Rattle.packing.proofs.ReportLaws.{bit-small}
 use Rattle.book.specs.declared.Entry.{Entry}
 use Rattle.book.specs.declared.Pricing.{Pricing}
 use Rattle.book.specs.declared.Pricing.the-variants.{Fixed, Dark, Sliding}
@@ -34,13 +35,9 @@ use Rattle.state.specs.Entry.{entries, pricingNumber, ownDisplay}
 use Rattle.state.specs.State.{headerOf, packsSeries, seriesBytes, packSeries}
 use Rattle.state.proofs.StateLaws.{fit-parts}
 
-bit-fits : (b : Bool) → bit b < 2
-bit-fits false = omega arith
-bit-fits true = omega arith
-
 flags-fit : (l : List Bool) → Fit (replicate (length l) 1) (map bit l)
 flags-fit [] = tt
-flags-fit (b ∷ l) = (bit-fits b, flags-fit l)
+flags-fit (b ∷ l) = (bit-small b, flags-fit l)
 
 -- ---- an entry ----
 
@@ -71,7 +68,7 @@ entry-packs m top few e f =
                 (
                   omega (arith, f .kind-high),
                   (
-                    omega (arith, bit-fits (e .sell)),
+                    omega (arith, bit-small (e .sell)),
                     (number-fits (e .pricing), tt),
                   ),
                 ),
@@ -120,9 +117,9 @@ module _ (s : Series) (sound : soundSeries s ≡ true) (places : length (s .book
                     (
                       omega (arith, facts .sound .most),
                       (
-                        omega (arith, bit-fits (s .terms .put)),
+                        omega (arith, bit-small (s .terms .put)),
                         (
-                          omega (arith, bit-fits (s .terms .exempt)),
+                          omega (arith, bit-small (s .terms .exempt)),
                           (
                             omega (arith, facts .sound .few),
                             subst (λ (n : ℕ). Fit (replicate n 1) (map bit (s .blocked))) makers (flags-fit (s .blocked)),
