@@ -6,14 +6,13 @@ use mathlib.Core.List.{List}
 use Rattle.prices.specs.declared.Prices.{Prices}
 use Rattle.lists.specs.Tests.{All}
 use Rattle.lists.specs.Choose.{Found, nowhere, found}
-use Rattle.lists.specs.Run.{Ran, still}
+use Rattle.lists.specs.Run.{Ran, still, andThen}
 use Rattle.lists.proofs.Bools.{cond-either}
 use Rattle.lists.proofs.TestLaws.{all-snoc}
 use Rattle.packing.specs.declared.report.Report.{Report}
 use Rattle.book.specs.declared.Entry.{Entry}
 use Rattle.book.specs.Entries.{quote, lessened}
 use Rattle.settling.specs.Tell.{cancelled}
-use Rattle.settling.specs.Stage.{andThen}
 use Rattle.settling.proofs.Keeps.{complete-tells}
 use Rattle.arrival.specs.declared.Terms.{Terms}
 use Rattle.arrival.specs.Terms.{marketOf}

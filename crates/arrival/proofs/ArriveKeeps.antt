@@ -10,7 +10,7 @@ use lib.ListN.{length, length-append}
 use Rattle.prices.specs.declared.Prices.{Prices}
 use Rattle.prices.proofs.StepLaws.{Legal, is-legal}
 use Rattle.lists.specs.Tests.{All}
-use Rattle.lists.specs.Run.{Ran, still}
+use Rattle.lists.specs.Run.{Ran, still, andThen}
 use Rattle.lists.proofs.Bools.{clash, cond-either}
 use Rattle.lists.proofs.PlaceLaws.{length-snoc}
 use Rattle.lists.proofs.TestLaws.{all-at, all-of}
@@ -25,7 +25,6 @@ use Rattle.sound.proofs.Facts.{EntryFacts, Clear, PairFacts, Sound}
 use Rattle.sound.proofs.Decides.{sound-is}
 use Rattle.sound.proofs.KeepLaws.{here-facts, sound-post, sound-higher}
 use Rattle.settling.specs.Tell.{rejected, rested, cancelled}
-use Rattle.settling.specs.Stage.{andThen}
 use Rattle.settling.proofs.EaseRule.{MarketFacts}
 use Rattle.settling.proofs.Packs.{pack-append}
 use Rattle.settling.proofs.Settles.{sound-for}

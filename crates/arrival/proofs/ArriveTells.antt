@@ -10,7 +10,7 @@ use Rattle.prices.specs.Side.{reaches}
 use Rattle.prices.specs.Aims.{minds}
 use Rattle.lists.specs.Tests.{All}
 use Rattle.lists.specs.Choose.{Found, nowhere, found}
-use Rattle.lists.specs.Run.{Ran, still}
+use Rattle.lists.specs.Run.{Ran, still, andThen}
 use Rattle.lists.proofs.Bools.{cond-either}
 use Rattle.lists.proofs.TestLaws.{all-append}
 use Rattle.lists.proofs.ChooseLaws.{Tells}
@@ -20,7 +20,6 @@ use Rattle.book.specs.Entries.{quote, quoteOf}
 use Rattle.book.specs.Look.{quoteIn}
 use Rattle.book.proofs.LookLaws.{quote-tells}
 use Rattle.settling.specs.Tell.{rejected, traded, rested, cancelled}
-use Rattle.settling.specs.Stage.{andThen}
 use Rattle.arrival.specs.declared.Terms.{Terms}
 use Rattle.arrival.specs.Terms.{marketOf}
 use Rattle.arrival.specs.Cancel.{cut, cutQuote}

@@ -14,7 +14,7 @@ use Rattle.prices.specs.Step.{mpv, given}
 use Rattle.prices.specs.Aims.{sliding, minds, aims, Bounds}
 use Rattle.prices.specs.Protect.{Cents}
 use Rattle.prices.proofs.StepLaws.{Given, given-is, given-none, given-legal, is-legal}
-use Rattle.lists.specs.Run.{Ran, still, leading, ran}
+use Rattle.lists.specs.Run.{Ran, still, leading, ran, andThen}
 use Rattle.lists.proofs.RunLaws.{run-stop, run-go}
 use Rattle.lists.proofs.Bools.{and-left}
 use Rattle.lists.proofs.TestLaws.{all-map}
@@ -32,7 +32,7 @@ use Rattle.book.proofs.ChangeLaws.{post-fits}
 use Rattle.sound.proofs.Facts.{EntryFacts, PricedAs, Sound}
 use Rattle.sound.proofs.FrontLaws.{given-nearest, given-contra}
 use Rattle.settling.specs.Tell.{rejected, traded, rested, cancelled}
-use Rattle.settling.specs.Stage.{soundMarket, Roomy, Staged, andThen}
+use Rattle.settling.specs.Stage.{soundMarket, Roomy, Staged}
 use Rattle.settling.proofs.EaseRule.{MarketFacts, market-facts}
 use Rattle.settling.proofs.Settles.{sound-for}
 use Rattle.arrival.specs.declared.Terms.{Terms}

@@ -9,7 +9,7 @@ use lib.ListN.{length}
 use borrow.Author.Tests.{not-true, not-false}
 use Rattle.prices.specs.declared.Market.{Market}
 use Rattle.prices.specs.Aims.{minds}
-use Rattle.lists.specs.Run.{Ran, still}
+use Rattle.lists.specs.Run.{Ran, still, andThen}
 use Rattle.packing.specs.declared.report.Report.{Report}
 use Rattle.packing.proofs.RoomLaws.{written-none}
 use Rattle.book.specs.declared.Entry.{Entry}
@@ -18,7 +18,7 @@ use Rattle.book.specs.Shape.{entriesOf}
 use Rattle.book.specs.Look.{contra}
 use Rattle.book.proofs.ShapeLaws.{length-entries, book-of-entries}
 use Rattle.sound.proofs.Facts.{Sound}
-use Rattle.settling.specs.Stage.{Roomy, Staged, andThen}
+use Rattle.settling.specs.Stage.{Roomy, Staged}
 use Rattle.arrival.specs.declared.Terms.{Terms}
 use Rattle.arrival.specs.declared.Facing.{Facing}
 use Rattle.arrival.specs.Terms.{marketOf}

@@ -15,7 +15,7 @@ use Rattle.prices.proofs.FrameLaws.{seen, unreached}
 use Rattle.prices.proofs.StepLaws.{is-legal}
 use Rattle.lists.specs.Places.{At}
 use Rattle.lists.specs.Tests.{All}
-use Rattle.lists.specs.Run.{Ran, still}
+use Rattle.lists.specs.Run.{Ran, still, andThen}
 use Rattle.lists.proofs.Bools.{clash}
 use Rattle.lists.proofs.TestLaws.{all-at, all-of}
 use Rattle.packing.specs.declared.report.Report.{Report}
@@ -28,7 +28,6 @@ use Rattle.book.proofs.OfferLaws.{Best, best-one}
 use Rattle.book.proofs.LookLaws.{Offered, contra-price-tells, quote-tells}
 use Rattle.sound.proofs.Facts.{AsItSlides, Clear, Sound}
 use Rattle.settling.specs.Tell.{rejected, rested, cancelled}
-use Rattle.settling.specs.Stage.{andThen}
 use Rattle.settling.proofs.EaseRule.{MarketFacts}
 use Rattle.settling.proofs.Settles.{sound-for}
 use Rattle.arrival.specs.declared.Terms.{Terms}

@@ -7,14 +7,13 @@ use mathlib.Core.List.{List, [], _∷_, _++_}
 use lib.Dec.{eqb}
 use Rattle.prices.specs.Side.{away}
 use Rattle.prices.specs.Protect.{protection}
-use Rattle.lists.specs.Run.{Ran, still}
+use Rattle.lists.specs.Run.{Ran, still, andThen}
 use Rattle.packing.specs.declared.report.Report.{Report}
 use Rattle.book.specs.declared.Entry.{Entry}
 use Rattle.book.specs.Entries.{quote}
 use Rattle.book.specs.Change.{post}
 use Rattle.book.specs.Look.{national}
 use Rattle.settling.specs.Tell.{rejected, rested, cancelled}
-use Rattle.settling.specs.Stage.{andThen}
 use Rattle.arrival.specs.declared.Terms.{Terms}
 use Rattle.arrival.specs.Terms.{marketOf, guardOf}
 use Rattle.arrival.specs.Cancel.{cutQuote}

@@ -10,7 +10,7 @@ use lib.Dec.{eqb}
 use lib.ListN.{length, length-append}
 use borrow.Author.Tests.{leb-true, eqb-true}
 use Rattle.prices.specs.Step.{mpv, given}
-use Rattle.lists.specs.Run.{Ran, still}
+use Rattle.lists.specs.Run.{Ran, still, andThen}
 use Rattle.lists.proofs.PlaceLaws.{length-none}
 use Rattle.packing.specs.declared.report.Report.{Report}
 use Rattle.packing.specs.declared.report.Report.the-variants.{Noted}
@@ -23,7 +23,7 @@ use Rattle.book.specs.Look.{entryOf}
 use Rattle.sound.specs.Sound.{soundEntries}
 use Rattle.sound.proofs.Facts.{Sound}
 use Rattle.sound.proofs.Decides.{is-sound, sound-is}
-use Rattle.settling.specs.Stage.{Roomy, SoundFor, andThen}
+use Rattle.settling.specs.Stage.{Roomy, SoundFor}
 use Rattle.settling.specs.Settle.{settled}
 use Rattle.settling.proofs.Packs.{pack-append}
 use Rattle.settling.proofs.Settles.{settles, settles-few}

@@ -15,7 +15,7 @@ use Rattle.prices.specs.Aims.{minds}
 use Rattle.prices.proofs.FrameLaws.{seen, reached}
 use Rattle.lists.specs.Places.{At}
 use Rattle.lists.specs.Tests.{All}
-use Rattle.lists.specs.Run.{Ran, still}
+use Rattle.lists.specs.Run.{Ran, still, andThen}
 use Rattle.lists.proofs.Bools.{clash, cond-either}
 use Rattle.lists.proofs.TestLaws.{all-at, all-map, all-append}
 use Rattle.packing.specs.declared.report.Report.{Report}
@@ -28,7 +28,6 @@ use Rattle.sound.proofs.Facts.{Sound}
 use Rattle.sound.proofs.Decides.{is-sound}
 use Rattle.sound.proofs.KeepLaws.{here-facts}
 use Rattle.settling.specs.Tell.{cancelled, takerOf}
-use Rattle.settling.specs.Stage.{andThen}
 use Rattle.settling.specs.Settle.{settled}
 use Rattle.settling.proofs.Keeps.{Stems, stems-start, stems-lessened, stems-through}
 use Rattle.settling.proofs.Takers.{one-number, Minding, minding-all}

@@ -8,12 +8,12 @@ use mathlib.Core.List.{List}
 use native.Mathlib.Omega.{arith}
 use lib.Dec.{eqb}
 use lib.ListN.{length}
-use Rattle.lists.specs.Run.{still}
+use Rattle.lists.specs.Run.{still, andThen}
 use Rattle.packing.specs.declared.report.Report.the-variants.{Noted}
 use Rattle.book.specs.declared.Entry.{Entry}
 use Rattle.book.specs.declared.Book.{Book}
 use Rattle.book.specs.Shape.{entriesOf}
-use Rattle.settling.specs.Stage.{Roomy, Staged, SoundFor, andThen}
+use Rattle.settling.specs.Stage.{Roomy, Staged, SoundFor}
 use Rattle.settling.specs.Settle.{settled}
 use Rattle.arrival.specs.declared.Terms.{Terms}
 use Rattle.arrival.specs.Terms.{marketOf}

@@ -2,7 +2,7 @@
 -- Assumes nothing.
 use Prim.Native.Nat.{ℕ, zero, suc}
 use mathlib.Core.Path.{_≡_}
-use mathlib.Core.List.{List, [], _∷_}
+use mathlib.Core.List.{List, [], _∷_, _++_}
 
 -- one step of a rule at a state: it is done, or it leaves one record and goes on
 pub data Step (S R : Type 0) : Type 0 where
@@ -26,6 +26,10 @@ module _ {S R : Type 0} where
 
   unfoldable pub leading : R → Ran S R → Ran S R
   leading r x = record { final = x .final; records = r ∷ x .records }
+
+  -- one run behind another, with the records of both
+  abbrev pub andThen : Ran S R → (S → Ran S R) → Ran S R
+  andThen x f = record { final = f (x .final) .final; records = x .records ++ f (x .final) .records }
 
   -- at most n steps
   unfoldable pub runFor : (S → Step S R) → ℕ → S → Ran S R

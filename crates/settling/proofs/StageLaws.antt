@@ -6,7 +6,7 @@ use mathlib.Core.List.{List, [], _∷_, _++_}
 use native.Mathlib.Omega.{arith}
 use native.Mathlib.Nat.{add-zero}
 use lib.ListN.{length, length-append}
-use Rattle.lists.specs.Run.{Step, stop, go, Ran, still}
+use Rattle.lists.specs.Run.{Step, stop, go, Ran, still, andThen}
 use Rattle.packing.specs.declared.report.Report.{Report}
 use Rattle.packing.specs.Room.{written, roomAfter}
 use Rattle.packing.proofs.RoomLaws.{length-written, written-none, written-append, put-there}
@@ -14,7 +14,7 @@ use Rattle.book.specs.declared.Entry.{Entry}
 use Rattle.book.specs.declared.Book.{Book}
 use Rattle.book.specs.Shape.{entriesOf, bookOf, WellFormed}
 use Rattle.book.proofs.ShapeLaws.{book-of-entries, entries-of-book, holds}
-use Rattle.settling.specs.Stage.{Roomy, Staged, andThen, Put, alone}
+use Rattle.settling.specs.Stage.{Roomy, Staged, Put, alone}
 use Rattle.settling.proofs.Packs.{pack-left, pack-right}
 
 -- ---- the same by another name ----

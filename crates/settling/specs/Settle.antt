@@ -13,7 +13,7 @@ use Rattle.prices.specs.Ease.{easedTo, eases}
 use Rattle.lists.specs.Places.{requeue}
 use Rattle.lists.specs.Tests.{any, count}
 use Rattle.lists.specs.Choose.{Found, nowhere, found}
-use Rattle.lists.specs.Run.{Step, stop, go, Ran, ran}
+use Rattle.lists.specs.Run.{Step, stop, go, Ran, ran, andThen}
 use Rattle.packing.specs.declared.report.Report.{Report}
 use Rattle.book.specs.declared.Entry.{Entry}
 use Rattle.book.specs.declared.Pricing.{Pricing}
@@ -22,7 +22,6 @@ use Rattle.book.specs.Entries.{display, priced}
 use Rattle.book.specs.Change.{hitBoth}
 use Rattle.book.specs.Look.{bestContra, contra, lowest}
 use Rattle.settling.specs.Tell.{traded, repriced}
-use Rattle.settling.specs.Stage.{andThen}
 
 -- ---- easing: "in entry order, each sliding buy working above A drops to the higher of its display and A (a sell the mirror image, both sides in one
 -- entry order)" ----

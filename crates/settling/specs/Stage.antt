@@ -1,11 +1,11 @@
 -- A stage of the handler takes the book, the lent report room and the number of reports in it so far, and gives the book back; its definition is a run,
 -- the entries that then rest and its reports in their order. These records say for every stage what it asks and what it ensures.
--- No rule of document 01 stands here, only words for contracts; the rules use one of them, `andThen`.
+-- No rule of document 01 stands here, only words for contracts.
 -- Assumes nothing.
 use Prim.Native.Nat.{ℕ, _+_, _*_, _≤_}
 use mathlib.Core.Path.{_≡_}
 use mathlib.Core.Bool.{Bool, true, _&&_}
-use mathlib.Core.List.{List, [], _∷_, _++_}
+use mathlib.Core.List.{List, [], _∷_}
 use lib.ListN.{length}
 use Rattle.prices.specs.declared.Market.{Market}
 use Rattle.prices.specs.Step.{mpv, given}
@@ -40,10 +40,6 @@ pub record Put (room : List ℕ) (n : ℕ) (r : Report) (room′ : List ℕ) (n�
 abbrev pub alone : List Entry → Step (List Entry) Report → Ran (List Entry) Report
 alone l stop = record { final = l; records = [] }
 alone l (go r t) = record { final = t; records = r ∷ [] }
-
--- one stage behind another
-abbrev pub andThen : Ran (List Entry) Report → (List Entry → Ran (List Entry) Report) → Ran (List Entry) Report
-andThen x f = record { final = f (x .final) .final; records = x .records ++ f (x .final) .records }
 
 -- an MPV and away prices that are none or legal
 unfoldable pub soundMarket : Market → Bool
