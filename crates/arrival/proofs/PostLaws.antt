@@ -163,7 +163,7 @@ module _ (t : Terms) (e : Entry) (l : List Entry) (left top : ℕ) (mk : MarketF
 
   -- WHAT NOTHING STOPS MAY REST
   pub fits : stopFor t e l ≡ 0 → Fits (t .m) left e l (pricesOf t e l)
-  unfolding stopFor stopped aim
+  unfolding stopFor stopped pastLast aim
   fits h =
       let r = may-rest (bars20 (e .kind) (e .sell) (e .limit) (away (marketOf t) (e .sell))) (bars21 e l)
       (bars23 (t .m) (e .kind) (e .sell) (pricesOf t e l .display)) (bars22 (t .m) (t .k) (e .kind) (e .sell) (e .limit) (pricesOf t e l .display)) h in

@@ -10,6 +10,7 @@ use lib.Seq.{drop-cons}
 use borrow.Author.Tests.{eqb-true, eq-eqb, ltb-true, lt-ltb}
 use Rattle.bits.specs.Fields.{Fit, allFit, equal}
 
+-- a test of two parts; crate lists, which has these laws as `and-left` and `and-right`, is not among those that this one stands on
 pub both-left : (a b : Bool) → (a && b) ≡ true → a ≡ true
 both-left true b h = refl
 both-left false b h = h

@@ -15,6 +15,7 @@ pub enum Pricing {
     Sliding(u32),
 }
 
+// A quote or an order.
 pub struct Entry {
     pub number: u32,
     pub party: u8,
@@ -27,6 +28,7 @@ pub struct Entry {
     pub pricing: Pricing,
 }
 
+// The first `count` places hold the entries that rest; the others are unused.
 pub struct Book {
     pub entries: [Entry; 64],
     pub count: usize,

@@ -1,5 +1,5 @@
 // Whether a book that is handed in is sound: one pass over the entries that rest, one over the unused places. What the pass has seen on
-// its way is answered with the verdict, so that no later stage has to look for it again.
+// its way is answered with the verdict, so that no later stage has to look for it again; specs/Summary says what of it is used.
 mod clauses;
 pub mod figures;
 mod pass;

@@ -100,7 +100,7 @@ accepts s e h k = record { sound = h; kind = ask-kind e .0; passes = k }
 within : (low high x : ℕ) → not (between low high x) ≡ false → (low ≤ x) × (x ≤ high)
 within low high x h = between-both low high x (not-false (between low high x) h)
 
--- of a quote that is to be replaced, there is one
+-- where the quote that is to be replaced rests, cutting it leaves one entry less
 cut-one : (why party : ℕ) (side : Bool) (l : List Entry) → any (quoteOf party side) l ≡ true → length l ≡ suc (length (cutQuote why party side l .final))
 unfolding any cut still
 cut-one why party side l h = at (quoteIn party side l) (quote-tells l party side) (quote-length why party side l)

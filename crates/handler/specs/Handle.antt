@@ -58,7 +58,7 @@ firstOf one number other next = cond one number (cond other next 0)
 abbrev pub beforeReading : ℕ → Bool → ℕ
 beforeReading space sound = firstOf (ltb space 31920) 10 (not sound) 11
 
--- WHAT IS ANSWERED: first 10, then 11, then the message is read
+-- WHAT IS ANSWERED, for every series, message and room: 10 is tested, then 11, and then the message is read
 unfoldable pub handled : Series → List ℕ → List ℕ → Handled
 handled s message room = refusedOr (beforeReading (length room) (soundSeries s)) s room (heard s room (unpackOf messages message))
 

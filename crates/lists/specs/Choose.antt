@@ -33,10 +33,10 @@ module _ {A : Type 0} where
   abbrev pub lesser : (A → ℕ) → A → A → Bool
   lesser key x y = ltb (key x) (key y)
 
-  -- an element's key if it passes; `none` is a number above all keys
-  abbrev pub keyed : ℕ → (A → Bool) → (A → ℕ) → A → ℕ
-  keyed none test key x = cond (test x) (key x) none
-
   -- an ordering: nothing goes before, so that place alone counts
   abbrev pub never : A → A → Bool
   never x y = false
+
+  -- an element's key if it passes; `none` is a number above all keys
+  abbrev pub keyed : ℕ → (A → Bool) → (A → ℕ) → A → ℕ
+  keyed none test key x = cond (test x) (key x) none

@@ -165,6 +165,7 @@ fn unpack_front(s: &[u8]) -> Unpacked
     event_of(xs)
 }
 
+// The event of 11 bytes; nothing for bytes that are no message.
 pub fn unpack(bytes: &[u8]) -> Unpacked
     ensures { λ r. ⌜ r ≡ unpacked (unpackOf messages (now (bytes .entry))) ⌝ }
     ensures { λ r. ⌜ saidBy r ≡ answerOf messages (unpackOf messages (now (bytes .entry))) ⌝ }

@@ -277,6 +277,7 @@ fn report_of(xs: [u32; 10]) -> Unpacked
     }
 }
 
+// The report of 14 bytes; nothing for bytes that are none.
 pub fn unpack(bytes: &[u8]) -> Unpacked
     ensures { λ r. ⌜ r ≡ unpacked (unpackOf reports (now (bytes .entry))) ⌝ }
     ensures { λ r. ⌜ saidBy r ≡ answerOf reports (unpackOf reports (now (bytes .entry))) ⌝ }

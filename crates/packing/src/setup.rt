@@ -86,6 +86,7 @@ fn setup_of(xs: [u32; 6]) -> Unpacked
     }
 }
 
+// The setup of 4 bytes; nothing for bytes that are none, or whose values are not legal.
 pub fn unpack(bytes: &[u8]) -> Unpacked
     ensures { λ r. ⌜ r ≡ unpacked (unpackOf setups (now (bytes .entry))) ⌝ }
     ensures { λ r. ⌜ saidBy r ≡ answerOf setups (unpackOf setups (now (bytes .entry))) ⌝ }

@@ -36,12 +36,12 @@ aimDisplay m kind s l a c = shortOf m s (minded kind c) (shortOf m s a l)
 unfoldable pub aimWorking : ℕ → ℕ → Bool → ℕ → ℕ → ℕ → ℕ
 aimWorking m kind s l a c = shortOf m s (minded kind c) (upTo s a l)
 
+-- both; "On arrival it takes the aims."
+abbrev pub aims : ℕ → ℕ → Bool → ℕ → ℕ → ℕ → Prices
+aims m kind s l a c = record { display = aimDisplay m kind s l a c; working = aimWorking m kind s l a c }
+
 -- what a caller has seen to: an MPV, and prices that are none or legal
 pub record Bounds (m a c : ℕ) : Type 0 where
   pub step : mpv m ≡ true
   pub away : given m a ≡ true
   pub contra : given m c ≡ true
-
--- both; "On arrival it takes the aims."
-abbrev pub aims : ℕ → ℕ → Bool → ℕ → ℕ → ℕ → Prices
-aims m kind s l a c = record { display = aimDisplay m kind s l a c; working = aimWorking m kind s l a c }

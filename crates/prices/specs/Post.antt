@@ -5,7 +5,7 @@ use mathlib.Core.Bool.{Bool, cond, not, _&&_}
 use lib.Dec.{eqb, ltb}
 use Rattle.prices.specs.declared.Figures.{Figures}
 use Rattle.prices.specs.Side.{reaches}
-use Rattle.prices.specs.Step.{lastPrice, pastLast, apart, allowed}
+use Rattle.prices.specs.Step.{lastPrice, apart, allowed}
 use Rattle.prices.specs.Aims.{sliding}
 
 -- "20, not MMALO or MMRP and L is A or more"
@@ -20,7 +20,7 @@ abbrev pub figures23 : ℕ → Bool → ℕ → Figures
 figures23 m s d = record { first = d; second = lastPrice m s }
 
 abbrev pub bars23 : ℕ → ℕ → Bool → ℕ → Bool
-bars23 m kind s d = sliding kind && pastLast m s d
+bars23 m kind s d = sliding kind && not (reaches s (figures23 m s d .first) (figures23 m s d .second))
 
 -- "22, a sliding kind's L minus display (sell: display minus L) exceeds K times M"
 abbrev pub figures22 : ℕ → ℕ → Bool → ℕ → ℕ → Figures

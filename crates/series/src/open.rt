@@ -42,7 +42,8 @@ pub fn new_series(s: Setup) -> Series
     }
 }
 
-fn no_series() -> Series
+// What stands where there is no series: one of zeros, which is unsound.
+pub fn no_series() -> Series
     ensures { λ r. ⌜ r ≡ noSeries ⌝ }
 {
     new_series(Setup {

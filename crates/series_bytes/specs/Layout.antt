@@ -1,4 +1,4 @@
--- A series in bytes, as the table has it.
+-- A series in bytes, as the test programs' tables have it.
 -- Assumes nothing.
 use Prim.Native.Nat.{ℕ, _+_}
 use mathlib.Core.Bool.{Bool}

@@ -5,9 +5,8 @@ use crate::head;
 use crate::places;
 use book::Book;
 use book::Entry;
-use packing::setup::Setup;
 use series::Series;
-use series::open::new_series;
+use series::open::no_series;
 ghost use mathlib.Core.Path.{_≡_};
 ghost use mathlib.Core.Bool.{false};
 ghost use Prim.Native.Nat.{_<_};
@@ -21,13 +20,7 @@ pub const SIZE: usize = 1564;
 fn nothing() -> Unpacked
     ensures { λ r. ⌜ r ≡ record { ok = false; series = noSeries } ⌝ }
 {
-    let series = new_series(Setup {
-        put: false,
-        exempt: false,
-        m: 0,
-        k: 0,
-        strike: 0,
-    });
+    let series = no_series();
     Unpacked { ok: false, series }
 }
 
