@@ -1,31 +1,16 @@
 /* Damaged state buffers. Plays the lesson on standard input; every so often it damages the state at each byte in turn, in several ways, and
  * asks the handler for something harmless. The answer is refusal 11 with every byte as it was, or 0 with a state that is again accepted. It also
  * hands over buffers of other lengths, and too small a room. Each lent buffer lies between two pages that may not be touched, and ends where
- * the second begins: a byte too far is a crash, in code that no sanitizer watches too. Exit status 1 at the first answer that is none of these. */
-#define _DEFAULT_SOURCE
+ * the second begins. Exit status 1 at the first answer that is none of these. */
+#include "fenced.h"
 #include "waxglimmer.h"
 
-#include <stdio.h>
-#include <stdlib.h>
 #include <string.h>
-#include <sys/mman.h>
-#include <unistd.h>
 
 #define MOST (2 * WAXGLIMMER_STATE)
 
 static uint8_t *room, *small, *lent_end, *underlying; /* kind 10: underlying price 0, which moves nothing of itself */
 static unsigned long tried, refused, sound;
-
-/* the end of `size` bytes (at least) behind which a page lies that may not be touched, as before them */
-static uint8_t *fenced_end(size_t size) {
-  const size_t page = (size_t)sysconf(_SC_PAGESIZE), pages = (size + page - 1) / page;
-  uint8_t *all = mmap(NULL, (pages + 2) * page, PROT_NONE, MAP_PRIVATE | MAP_ANONYMOUS, -1, 0);
-  if (all == MAP_FAILED || mprotect(all + page, pages * page, PROT_READ | PROT_WRITE) != 0) {
-    puts("damage: no memory");
-    exit(1);
-  }
-  return all + (pages + 1) * page;
-}
 
 static void fail(const char *what, size_t at, unsigned value) {
   printf("damage: %s, byte %lu, value %u\n", what, (unsigned long)at, value);

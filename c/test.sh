@@ -1,8 +1,9 @@
 #!/usr/bin/env bash
-# Compiles the C programs of this folder against the proved archive and runs them: example.c on every lesson, whose outside answer it must write;
-# calls.c on every lesson;
-# damage.c on some, between guard pages, and its own code under an address sanitizer where the compiler has one (the archive is compiled
-# without). Run it anywhere in the repository; exit status 1 if anything differs.
+# Compiles the C programs of this folder against the proved archive and runs them: example.c on every lesson, whose outside answer it must write,
+# and on one as a program in C++; calls.c on every lesson; edges.c; damage.c on some lessons. The last two lend buffers between guard pages, and
+# their own code is under an address sanitizer where the compiler has one (the archive is compiled without). The archive may have no memory of
+# its own and call nothing but memcpy. EVERY=1 damages states of every lesson and not of every tenth. Run it anywhere in the repository; exit
+# status 1 if anything differs.
 set -uo pipefail
 cd "$(dirname "$(readlink -f "$0")")/.." || exit 2
 
@@ -29,20 +30,39 @@ archive=target/staticlib/libserver.a
 work=$(mktemp -d)
 trap 'rm -rf "$work"' EXIT
 
+if command -v nm >/dev/null && command -v size >/dev/null; then
+  calls=$(nm -u "$archive" | awk '$1 == "U" { print $2 }' | sort -u | tr '\n' ' ')
+  kept=$(size "$archive" | awk 'NR > 1 { bytes += $2 + $3 } END { print bytes + 0 }')
+  if [ "$calls" != 'memcpy ' ] || [ "$kept" != 0 ]; then
+    echo "c/test.sh: the archive calls ${calls:-nothing }and keeps $kept bytes between calls; c/waxglimmer.h says memcpy and none"
+    exit 1
+  fi
+fi
+
 build() { # NAME OPTIONS..: one program
   local name=$1
   shift
-  $compiler -std=c99 -O2 -Wall -Wextra -Werror "$@" -o "$work/$name" "c/$name.c" "$archive"
+  $compiler -std=c99 -O2 -Wall -Wextra -Werror -pthread "$@" -o "$work/$name" "c/$name.c" "$archive"
 }
 build example || exit 1
 build calls || exit 1
 sanitizer='between guard pages, the C code under an address sanitizer'
-if ! { build damage -g -fsanitize=address,undefined -fno-sanitize-recover=all && [ "${#run[@]}" = 0 ]; } 2>/dev/null; then
+watch=(-g -fsanitize=address,undefined -fno-sanitize-recover=all)
+if ! { build damage "${watch[@]}" && build edges "${watch[@]}" && [ "${#run[@]}" = 0 ]; } 2>/dev/null; then
   sanitizer='between guard pages, without a sanitizer: the compiler has none'
-  build damage || exit 1
+  build damage && build edges || exit 1
 fi
 
 lessons=0 failed=0
+"${run[@]+"${run[@]}"}" "$work/edges" || { echo 'c/test.sh: c/edges.c failed'; failed=$((failed + 1)); }
+if [ "${#run[@]}" = 0 ] && command -v c++ >/dev/null; then
+  one=(tests/lessons/*.bin)
+  c++ -Wall -Wextra -Werror -o "$work/plus" -x c++ c/example.c -x none "$archive" || exit 1
+  if ! "$work/plus" <"${one[0]}" | cmp -s - "${one[0]%.bin}.out"; then
+    echo "c/test.sh: c/example.c in C++ differs from the outside answer on ${one[0]}"
+    failed=$((failed + 1))
+  fi
+fi
 for lesson in tests/lessons/*.bin; do
   lessons=$((lessons + 1))
   if ! "${run[@]+"${run[@]}"}" "$work/example" <"$lesson" | cmp -s - "${lesson%.bin}.out"; then

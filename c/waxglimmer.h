@@ -17,28 +17,41 @@
  *   9  a quote or order, and entry number 1,000,000 has been given
  *   8  a cancellation: no such entry of that party, or no such quote
  *
- * Bytes: fields in bits, from the first byte's most significant bit on. What a kind does not name is 0.
+ * Bytes: fields in bits, from the first byte's most significant bit on. What a kind does not name is 0. Prices are cents, multiples of M.
  *
  *   setup     put 1, exempt 1, M 4, K 7, strike 17, zero 2
+ *               44 50 03 20: a call, exempt, M 1, K 10, strike 200
  *   message   kind 4, party 7, side 1 (0 buy, 1 sell), price 17, quantity 17, second price 17, entry 20, zero 5
  *               1 to 4 plain, MMLO, MMALO, MMRP quote, 5 displayed order, 6 dark order: party, side, price (limit), quantity
  *               7 cancel own entry: party, entry         8 cancel own quote: party, side
  *               9 away bid and offer: price, second price (0 for none)
  *              10 underlying: price (0 for none)        11 phase (0 closed, 1 open, 2 halted): quantity        12 enable a maker: party
+ *               40 60 07 08 00 C8 00 00 00 00 00: MMRP quote, party 3, buy, 225 x 50
  *   report    kind 3, reason 5, side 1, party 7, entry 20, other entry 20, price 17, second price 17, quantity 17, zero 5
- *               1 noted, 2 rejected, 3 traded, 4 rested, 5 repriced, 6 cancelled: README.md has the fields and the reasons
+ *               1 noted: no field
+ *               2 rejected: reason, side, party, entry, price (limit), quantity entered
+ *               3 traded: side, party and entry of the taker, other entry (the one that rested), price, quantity traded
+ *               4 rested, 5 repriced: side, party, entry, price (display, 0 if dark), second price (working), quantity left
+ *               6 cancelled: reason, side, party, entry, price (limit), quantity cancelled
+ *               README.md says what each reason, 20 to 31, means
  *
- * The archive: `rt staticlib server` proves it and writes target/staticlib/libserver.a, for x86-64 Linux;
- * `cc -o example c/example.c target/staticlib/libserver.a` links it. It allocates nothing, keeps nothing between calls, does no input or
- * output, and calls nothing but memcpy; on two lessons a call took about 45 KB of stack. A state buffer can be copied and stored as bytes.
+ * A series is its state buffer and nothing else: it can be copied, moved, stored and gone on with elsewhere. Its bytes have no version and no
+ * checksum, and do not count the messages: keep these beside it. Refusal 11 finds bytes that no series can have, not one series damaged into
+ * another. To try a stored state without a message, hand over one of length 0: the answer is 11, or 1 for a sound series, and nothing changes.
+ *
+ * The archive: `rt staticlib server`, in the repository's first folder, proves it and writes target/staticlib/libserver.a, for x86-64 Linux;
+ * `cc -o example c/example.c target/staticlib/libserver.a` links it, and a shared library can take it in. It allocates nothing, keeps nothing
+ * between calls, does no input or output, and calls nothing but memcpy. It is compiled without sanitizers: a memory sanitizer does not see
+ * what it writes, so fill the buffers first if you use one.
  *
  * What no header can promise is the caller's to see to:
  *   - a length beside a pointer is the number of bytes that may be read (and, of state and room, written) from there; a wrong length is
  *     undefined, and so is a null or dangling pointer, even with length 0; byte buffers may stand at any address, count, display and
  *     working where their types may;
  *   - two buffers that one call is lent do not overlap, if the call writes one of them: state, room, count, display and working are
- *     written, setup, message and run are only read;
+ *     written, setup, message and run are only read. No buffer is kept: each is the caller's again when the call is over;
  *   - no other thread uses a lent buffer during the call. Calls on different buffers may run at the same time.
+ * What count, display and working held before, a state before its setup, and a room, does not matter.
  */
 #ifndef WAXGLIMMER_H
 #define WAXGLIMMER_H
@@ -56,6 +69,7 @@ extern "C" {
 #define WAXGLIMMER_REPORTS 2280 /* the most reports that one message gives */
 #define WAXGLIMMER_ROOM 31920  /* the least bytes of a report room: 2,280 reports of 14 */
 #define WAXGLIMMER_STATE 1564  /* bytes of a series; crates/state/src/lib.rt has the layout */
+#define WAXGLIMMER_STACK 65536 /* bytes of stack with which a thread can make every call: tried by c/test.sh, not proved */
 
 /* The aims of one quote. kind 3 (MMALO) or 4 (MMRP); side 0 buy, 1 sell; limit; away and contra price, 0 for none; m 1, 5 or 10.
  * Answers 0, 1 (another kind, side or m) or 3 (an illegal price). Both aims are written: 0 on a refusal. An aim may fall one m outside the
@@ -63,8 +77,8 @@ extern "C" {
 uint32_t waxglimmer_aims(uint32_t kind, uint32_t side, uint32_t limit, uint32_t away, uint32_t contra, uint32_t m, uint32_t *display,
                          uint32_t *working);
 
-/* Is this byte string a message? 0, or 1 for none. _at judges the 11 bytes from place `at` of a run, which are fewer, and so no message,
- * where the run ends before. Any `at` may be asked. */
+/* Is this byte string a message? 0, or 1 for none. _at, here and below, is of the 11 bytes from byte `at` of a run on, where they stand; they
+ * are fewer, and so no message, where the run ends before. Any `at` may be asked. */
 uint32_t waxglimmer_is_message(const uint8_t *message, size_t length);
 uint32_t waxglimmer_is_message_at(const uint8_t *run, size_t length, size_t at);
 
@@ -73,10 +87,11 @@ uint32_t waxglimmer_is_message_at(const uint8_t *run, size_t length, size_t at);
 uint32_t waxglimmer_check(const uint8_t *message, size_t length, uint32_t m);
 uint32_t waxglimmer_check_at(const uint8_t *run, size_t length, size_t at, uint32_t m);
 
-/* Sets up a new series in the state buffer. 0; 1 for a setup that is refused; then 11 for a buffer that has not WAXGLIMMER_STATE bytes. */
+/* Sets up a new series in the state buffer, whatever that held. 0; 1 for a setup that is refused; then 11 for a buffer that has not
+ * WAXGLIMMER_STATE bytes. */
 uint32_t waxglimmer_setup(const uint8_t *setup, size_t setup_length, uint8_t *state, size_t state_length);
 
-/* Answers a message (or the one at place `at` of a run). On 0 the state buffer holds the series afterwards and the first
+/* Answers a message (or the one from byte `at` of a run on). On 0 the state buffer holds the series afterwards and the first
  * *count * WAXGLIMMER_REPORT bytes of the room its reports, in order; no byte of the room beyond them is written. On any other number
  * state and room are as they were and *count is 0. */
 uint32_t waxglimmer_handle(uint8_t *state, size_t state_length, const uint8_t *message, size_t message_length, uint8_t *room,
