@@ -1,57 +1,31 @@
 /* Plays one stream with the proved handler and with the engine, in turns, and prints a row of the table:
 
-     measure NAME FILE ROUNDS
+     measure NAME FILE ROUNDS      without these: how many bytes the engine's state has
 
    Both write the reports of message after message into one buffer of their own; unless the two are the same, byte for byte, it fails. */
-#include "engine.h"
+#include "players.h"
 #include <pthread.h>
-#include <stdio.h>
-#include <stdlib.h>
 #include <string.h>
-#include <time.h>
-
-/* crate played: how many bytes of reports were written */
-size_t waxglimmer_play(const uint8_t *setup, size_t setup_length, const uint8_t *run, size_t run_length, uint8_t *out, size_t out_length);
-
-static size_t engine_play(const uint8_t *setup, size_t setup_length, const uint8_t *run, size_t run_length, uint8_t *out, size_t out_length) {
-  static Series s;
-  size_t used = 0, count;
-  if (engine_setup(&s, setup, setup_length)) return 0;
-  for (size_t at = 0; at + MESSAGE <= run_length && used + ROOM <= out_length; at += MESSAGE) {
-    engine_handle(&s, run + at, MESSAGE, out + used, out_length - used, &count);
-    used += REPORT * count;
-  }
-  return used;
-}
-
-typedef size_t Player(const uint8_t *, size_t, const uint8_t *, size_t, uint8_t *, size_t);
 
 static uint8_t *stream, *outs[2];
 static size_t length, space, used[2];
-static Player *const players[2] = {waxglimmer_play, engine_play};
 
-static double now(void) {
-  struct timespec t;
-  clock_gettime(CLOCK_MONOTONIC, &t);
-  return t.tv_sec + t.tv_nsec * 1e-9;
-}
-
-static double timed(int which) {
-  double start = now();
+static uint64_t timed(int which) {
+  const uint64_t start = now();
   used[which] = players[which](stream, 4, stream + 4, length - 4, outs[which], space);
   return now() - start;
 }
 
 /* ---- the deepest stack, by what is left of a pattern on a stack of its own ---- */
 
-enum { STACK = 8 << 20 };
+enum { STACK = 8 << 20, NONE = 2 };
 
 static void *on_own_stack(void *which) {
-  timed(*(int *)which);
+  if (*(int *)which != NONE) timed(*(int *)which);
   return NULL;
 }
 
-static size_t stack_of(int which) {
+static size_t touched(int which) {
   uint8_t *stack = aligned_alloc(4096, STACK);
   pthread_attr_t how;
   pthread_t thread;
@@ -66,25 +40,27 @@ static size_t stack_of(int which) {
   return STACK - untouched;
 }
 
+/* less what a thread takes that plays nothing */
+static size_t stack_of(int which) { return touched(which) - touched(NONE); }
+
 int main(int argc, char **argv) {
+  if (argc == 1) return printf("%zu\n", sizeof(Series)) < 0;
   if (argc != 4) return 2;
-  FILE *file = fopen(argv[2], "rb");
-  if (!file) return 2;
   stream = malloc(1 << 27);
-  length = fread(stream, 1, 1 << 27, file);
+  length = read_stream(argv[2], stream, 1 << 27);
   space = (size_t)1 << 29;
   for (int i = 0; i < 2; i++) memset(outs[i] = malloc(space), 0, space);
-  double best[2] = {1e9, 1e9};
+  double best[2] = {1e18, 1e18};
   for (int round = atoi(argv[3]); round > 0; round--)
     for (int i = 0; i < 2; i++) {
-      double t = timed(i);
+      const double t = timed(i);
       if (t < best[i]) best[i] = t;
     }
-  if (used[0] != used[1] || memcmp(outs[0], outs[1], used[0])) {
+  if (used[PROVED] != used[ENGINE] || memcmp(outs[PROVED], outs[ENGINE], used[PROVED])) {
     fprintf(stderr, "measure: on %s the reports differ\n", argv[1]);
     return 1;
   }
-  double messages = (length - 4) / MESSAGE, reports = used[0] / REPORT;
-  printf("| %s | %.0f | %.2f | %.0f | %.0f | %.2f | %zu, %zu |\n", argv[1], messages, reports / messages, 1e9 * best[0] / messages,
-         1e9 * best[1] / messages, best[0] / best[1], stack_of(0), stack_of(1));
+  double messages = (length - 4) / MESSAGE, reports = used[PROVED] / REPORT;
+  printf("| %s | %.0f | %.2f | %.0f | %.0f | %.2f | %zu, %zu |\n", argv[1], messages, reports / messages, best[PROVED] / messages,
+         best[ENGINE] / messages, best[PROVED] / best[ENGINE], stack_of(PROVED), stack_of(ENGINE));
 }

@@ -1,4 +1,5 @@
-/* Writes a stream of messages to standard output: stream NAME COUNT [LESSON]. The engine is played along, so that a cancel can name what rests. */
+/* Writes a stream of messages to standard output: stream NAME COUNT [LESSON or NUMBER]. The engine is played along, so that a cancel can name
+   what rests. */
 #include "engine.h"
 #include <stdio.h>
 #include <stdlib.h>
@@ -113,11 +114,42 @@ static void depth(long count, uint32_t deep) {
   }
 }
 
+/* Orders far from every other price, until this many entries rest */
+static void fill(uint32_t deep) {
+  for (uint32_t i = s.count; i < deep; i++) send(5, 20, i & 1, i & 1 ? 15000 + i : 5000 - i, 7, 0, 0);
+}
+
+/* 64 entries rest, and each message writes so many reports, 32 at most: of the entries all but one fewer are orders that never move, the
+   others MMRP quotes on both sides. The away prices (crossed, so that the sides do not meet) step by a cent and back: noted, and each quote
+   repriced. */
+static void reports(long count, uint32_t number) {
+  setup(0, 1, 1, 100, 20000);
+  send(11, 0, 0, 0, 1, 0, 0);
+  send(9, 0, 0, 10500, 0, 9500, 0);
+  for (uint32_t i = 0; i + 1 < number; i++) send(4, 1 + i / 2, i & 1, i & 1 ? 10490 : 9510, 7, 0, 0);
+  fill(PLACES);
+  for (long i = 0; i < count; i++) send(9, 0, 0, 10501 - (i & 1), 0, 9499 + (i & 1), 0);
+}
+
+/* 63 entries rest (at 64 an order would be refused), so many of them sells of one contract, each at its own price: a buy order takes just
+   these, and they are posted again */
+static void sweeps(long count, uint32_t number) {
+  setup(0, 1, 1, 100, 20000);
+  send(11, 0, 0, 0, 1, 0, 0);
+  fill(PLACES - 1 - number);
+  for (long i = 0; i < count; i += number + 1) {
+    for (uint32_t j = 1; j <= number; j++) send(5, 20, 1, 10000 + j, 1, 0, 0);
+    send(5, 30, 0, 10000 + number, number, 0, 0);
+  }
+}
+
 int main(int argc, char **argv) {
   if (argc < 3) return 2;
   long count = atol(argv[2]);
   if (argc == 4 && !strcmp(argv[1], "again")) return again(count, argv[3]), 0;
   if (argc == 4 && !strcmp(argv[1], "depth")) return depth(count, atoi(argv[3])), 0;
+  if (argc == 4 && !strcmp(argv[1], "reports")) return reports(count, atoi(argv[3])), 0;
+  if (argc == 4 && !strcmp(argv[1], "sweeps")) return sweeps(count, atoi(argv[3])), 0;
   if (!strcmp(argv[1], "realistic")) realistic(count);
   else if (!strcmp(argv[1], "refusals")) refusals(count);
   else return 2;
