@@ -4,10 +4,10 @@
     python3 tests/make_lessons.py           writes the lessons
     python3 tests/make_lessons.py --check   only says whether they are up to date
 
-The short lessons stand in tests/lesson_sources/*.txt, a message a line in the
-words of words.py.  The indented lines below a message are the reports it must
-give, worked out by hand from document 01; below `setup` stands what a refused
-setup prints.  A lesson is written only if the model agrees with every line.
+The short lessons stand in tests/lesson_sources/*.txt, in the form that source.py
+reads.  The indented lines below a message are the reports it must give, worked
+out by hand from document 01; below `setup` stands what a refused setup prints.
+A lesson is written only if the model agrees with every line.
 
 The long lessons stand below, as programs.  Their output is the model's.
 """
@@ -18,32 +18,10 @@ import sys
 from itertools import zip_longest
 
 from model import session
-from packed import messages_of
-from words import message_bytes, report_line, setup_bytes
+from source import read_lessons
+from words import Mistake, message_bytes, setup_bytes
 
 HERE = os.path.dirname(os.path.abspath(__file__))
-
-
-def read_source(path):
-    """{name: (bytes, expected lines)} of one source file."""
-    lessons, name = {}, None
-    with open(path) as file:
-        for line in file:
-            words = line.split()
-            if not words or words[0].startswith("#"):
-                continue
-            if words[0] == "lesson":
-                name = words[1]
-                assert name not in lessons, "two lessons are named " + name
-                lessons[name] = (bytearray(), [])
-            elif words[0] == "setup":
-                lessons[name][0].extend(setup_bytes(" ".join(words[1:])))
-            elif line[0].isspace():
-                data, expected = lessons[name]
-                expected.append(report_line(len(messages_of(data)), line))
-            else:
-                lessons[name][0].extend(message_bytes(line))
-    return lessons
 
 
 # ---------------------------------------------------------------- the long lessons
@@ -116,14 +94,16 @@ LONG = {"full-book-of-64": full_book, "blocked-maker-in-a-full-book": blocked_in
 def all_lessons():
     lessons = {}
     for path in sorted(glob.glob(os.path.join(HERE, "lesson_sources", "*.txt"))):
-        for name, (data, expected) in read_source(path).items():
-            assert name not in lessons, "two lessons are named " + name
-            lines = session(bytes(data))
-            if lines != expected:
-                pairs = zip_longest(expected, lines, fillvalue="(nothing)")
+        for lesson in read_lessons(path):
+            assert lesson.name, "a lesson of %s has no name" % path
+            assert lesson.name not in lessons, "two lessons are named " + lesson.name
+            data = bytes(lesson.data)
+            lines = session(data)
+            if lines != lesson.expected:
+                pairs = zip_longest(lesson.expected, lines, fillvalue="(nothing)")
                 wrong = next(pair for pair in pairs if pair[0] != pair[1])
-                sys.exit("%s: the source says %r, the model says %r" % (name, *wrong))
-            lessons[name] = (bytes(data), lines)
+                sys.exit("%s: the source says %r, the model says %r" % (lesson.name, *wrong))
+            lessons[lesson.name] = (data, lines)
     for name, program in LONG.items():
         setup, messages = program()
         data = setup_bytes(setup) + b"".join(message_bytes(line) for line in messages)
@@ -151,4 +131,7 @@ def main(arguments):
 
 
 if __name__ == "__main__":
-    main(sys.argv[1:])
+    try:
+        main(sys.argv[1:])
+    except Mistake as mistake:
+        sys.exit(str(mistake))

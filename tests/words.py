@@ -9,7 +9,7 @@ A message a line:
     mmrp buy 3 225 x 50       plain, mmlo, mmalo, mmrp, order, dark: side, party, limit, quantity
     cancel 50 #3              party 50 cancels its entry 3
     withdraw 3 buy            maker 3 cancels its buy quote
-    bytes 40 60 07            bytes as they are, of any number
+    bytes 40 60 07            bytes as they are, 11 of them, or fewer for a short last message
 
 A report a line, as the session program would say it in words:
 
@@ -20,6 +20,8 @@ A report a line, as the session program would say it in words:
     repriced buy 3 #2 219/219 x 40
     cancelled 27 buy 3 #2 225 x 40
     refused 8                               the message is refused
+
+A number need only fit its field: what the handler then refuses can be said too.
 """
 
 from packed import *
@@ -29,46 +31,113 @@ KIND_WORDS = {PLAIN: "plain", MMLO: "mmlo", MMALO: "mmalo", MMRP: "mmrp",
 SIDE_WORDS = ("buy", "sell")
 PHASE_WORDS = ("close", "open", "halt")
 
+# What stands after a word: a value's name, in capitals; a choice; any other word is itself.
+SETUP = "call|put tested|exempt M STEP K STEPS strike STRIKE"
+MESSAGES = {word: (PHASE, "") for word in PHASE_WORDS}
+MESSAGES.update({"phase": (PHASE, "PHASE"), "away": (AWAY, "BID OFFER"),
+                 "underlying": (UNDERLYING, "PRICE"), "enable": (ENABLE, "MAKER"),
+                 "cancel": (CANCEL_ENTRY, "PARTY #ENTRY"),
+                 "withdraw": (CANCEL_QUOTE, "MAKER buy|sell")})
+MESSAGES.update({KIND_WORDS[kind]: (kind, "buy|sell MAKER LIMIT x QUANTITY") for kind in QUOTES})
+MESSAGES.update({KIND_WORDS[kind]: (kind, "buy|sell PARTY LIMIT x QUANTITY") for kind in ORDERS})
+REPORTS = {"noted": (NOTED, ""), "refused": (0, "REFUSAL"),
+           "rejected": (REJECTED, "REASON buy|sell PARTY #ENTRY LIMIT x QUANTITY"),
+           "traded": (TRADED, "buy|sell PARTY #ENTRY with #OTHER at CENTS x QUANTITY"),
+           "rested": (RESTED, "buy|sell PARTY #ENTRY DISPLAY / WORKING x QUANTITY"),
+           "repriced": (REPRICED, "buy|sell PARTY #ENTRY DISPLAY / WORKING x QUANTITY"),
+           "cancelled": (CANCELLED, "REASON buy|sell PARTY #ENTRY LIMIT x QUANTITY")}
+REPORT_FIELDS = ("reason", "side", "party", "entry", "other", "price", "second", "quantity")
 
-def price_of(word):
-    return 0 if word == "none" else int(word)
+# The field that a value goes to, and the field's width in bits.
+CHOICES = {"call|put": "put", "tested|exempt": "exempt", "buy|sell": "side"}
+VALUES = {"STEP": ("m", 4), "STEPS": ("k", 7), "STRIKE": ("strike", 17),
+          "PARTY": ("party", 7), "MAKER": ("party", 7), "#ENTRY": ("entry", 20),
+          "#OTHER": ("other", 20), "LIMIT": ("price", 17), "BID": ("price", 17),
+          "OFFER": ("second", 17), "PRICE": ("price", 17), "CENTS": ("price", 17),
+          "DISPLAY": ("price", 17), "WORKING": ("second", 17), "QUANTITY": ("quantity", 17),
+          "PHASE": ("quantity", 17), "REASON": ("reason", 5), "REFUSAL": ("refusal", 4)}
+MAY_BE_NONE = ("BID", "OFFER", "PRICE")
+
+
+class Mistake(Exception):
+    """What is wrong with a line, and what was expected."""
+
+
+def quoted(word):
+    """A word of the line, fit to be shown whatever it holds."""
+    return repr(word if len(word) <= 30 else word[:30] + "..")
+
+
+def value_of(name, word):
+    """The number that a word says for a value or a choice."""
+    if name in CHOICES:
+        if word not in name.split("|"):
+            raise Mistake("%s is neither %s" % (quoted(word), name.replace("|", " nor ")))
+        return name.split("|").index(word)
+    if word == "none" and name in MAY_BE_NONE:
+        return 0
+    digits = word[1:] if name[0] == word[0] == "#" else word
+    top = (1 << VALUES[name][1]) - 1
+    if not (digits.isascii() and digits.isdigit() and len(digits) < 10 and int(digits) <= top):
+        raise Mistake("%s is no %s, which is a whole number from 0 to %d%s"
+                      % (quoted(word), name, top, ", or none" if name in MAY_BE_NONE else ""))
+    return int(digits)
+
+
+def fields_of(words, form):
+    """The fields that the words say by a form, which begins with the same word."""
+    names, fields = form.split(), {}
+    try:
+        for name, word in zip(names[1:], words[1:]):
+            if name in CHOICES or name in VALUES:
+                fields[CHOICES.get(name) or VALUES[name][0]] = value_of(name, word)
+            elif name != word:
+                raise Mistake("%s stands in the place of %s" % (quoted(word), name))
+        if len(words) < len(names):
+            raise Mistake("%s is missing" % " ".join(names[len(words):]))
+        if len(words) > len(names):
+            raise Mistake("%s is too much" % quoted(" ".join(words[len(names):])))
+    except Mistake as mistake:
+        shown = form.strip().replace(" / ", "/")
+        raise Mistake("%s; expected: %s" % (mistake, shown)) from None
+    return fields
+
+
+def hex_bytes(words, least, most):
+    """The bytes of a line that says them as they are."""
+    data = bytearray()
+    for word in words:
+        try:
+            data += bytes.fromhex(word)
+        except ValueError:
+            raise Mistake("%s is no byte; expected: pairs of digits 0 to 9 and a to f"
+                          % quoted(word)) from None
+    if not least <= len(data) <= most:
+        raise Mistake("%d bytes; expected: from %d to %d" % (len(data), least, most))
+    return bytes(data)
 
 
 def setup_bytes(line):
     """`call exempt M 1 K 10 strike 200`, or `put tested M ...`; or `bytes ..`."""
     words = line.split()
-    if words[0] == "bytes":
-        return bytes.fromhex("".join(words[1:]))
-    put, exempt, m_word, m, k_word, k, strike_word, strike = words
-    assert (m_word, k_word, strike_word) == ("M", "K", "strike"), line
-    return pack_setup(("call", "put").index(put), ("tested", "exempt").index(exempt),
-                      int(m), int(k), int(strike))
+    if words[:1] == ["bytes"]:
+        return hex_bytes(words[1:], 0, 4)
+    return pack_setup(**fields_of(["setup"] + words, "setup " + SETUP))
 
 
 def message_bytes(line):
     """The packed bytes of a message in words."""
-    word, *rest = line.split()
-    if word == "bytes":
-        return bytes.fromhex("".join(rest))
-    if word in PHASE_WORDS:
-        return Message(PHASE, quantity=PHASE_WORDS.index(word)).pack()
-    if word == "phase":
-        return Message(PHASE, quantity=int(rest[0])).pack()
-    if word == "away":
-        return Message(AWAY, price=price_of(rest[0]), second=price_of(rest[1])).pack()
-    if word == "underlying":
-        return Message(UNDERLYING, price=price_of(rest[0])).pack()
-    if word == "enable":
-        return Message(ENABLE, party=int(rest[0])).pack()
-    if word == "cancel":
-        return Message(CANCEL_ENTRY, party=int(rest[0]), entry=int(rest[1].lstrip("#"))).pack()
-    if word == "withdraw":
-        return Message(CANCEL_QUOTE, party=int(rest[0]), side=SIDE_WORDS.index(rest[1])).pack()
-    kind = {text: number for number, text in KIND_WORDS.items()}[word]
-    side, party, limit, times, quantity = rest
-    assert times == "x", line
-    return Message(kind, party=int(party), side=SIDE_WORDS.index(side),
-                   price=int(limit), quantity=int(quantity)).pack()
+    words = line.split()
+    if words[0] == "bytes":
+        return hex_bytes(words[1:], 1, 11)
+    if words[0] not in MESSAGES:
+        raise Mistake("%s is no word for a message; expected: %s or bytes"
+                      % (quoted(words[0]), ", ".join(MESSAGES)))
+    kind, form = MESSAGES[words[0]]
+    fields = fields_of(words, words[0] + " " + form)
+    if words[0] in PHASE_WORDS:
+        fields["quantity"] = PHASE_WORDS.index(words[0])
+    return Message(kind, **fields).pack()
 
 
 def message_words(data):
@@ -95,7 +164,7 @@ def message_words(data):
 def setup_words(data):
     setup = unpack_setup(data)
     if setup is None:
-        return "bytes " + data.hex(" ")
+        return ("bytes " + data.hex(" ")).rstrip()
     put, exempt, m, k, strike = setup
     return "%s %s M %d K %d strike %d" % (("call", "put")[put], ("tested", "exempt")[exempt],
                                           m, k, strike)
@@ -103,24 +172,16 @@ def setup_words(data):
 
 def report_line(number, line):
     """The line the session program prints for a report in words."""
-    word, *rest = line.split()
-    if word == "refused":
-        return "%d refused %s" % (number, rest[0])
-    if word == "noted":
-        return "%d 1 0 0 0 0 0 0 0 0" % number
-    reason = rest.pop(0) if word in ("rejected", "cancelled") else 0
-    side, party, entry = SIDE_WORDS.index(rest[0]), rest[1], rest[2].lstrip("#")
-    other = second = 0
-    if word == "traded":
-        _, other, _, price, _, quantity = rest[3:]
-        other = other.lstrip("#")
-    else:
-        price, _, quantity = rest[3:]
-        if word in ("rested", "repriced"):
-            price, second = price.split("/")
-    kind = {"rejected": 2, "traded": 3, "rested": 4, "repriced": 5, "cancelled": 6}[word]
-    fields = (number, kind, reason, side, party, entry, other, price, second, quantity)
-    return " ".join(str(field) for field in fields)
+    words = line.replace("/", " / ").split()
+    if words[0] not in REPORTS:
+        raise Mistake("%s is no word for a report; expected: %s"
+                      % (quoted(words[0]), ", ".join(REPORTS)))
+    kind, form = REPORTS[words[0]]
+    fields = fields_of(words, words[0] + " " + form)
+    if kind == 0:
+        return "%d refused %d" % (number, fields["refusal"])
+    values = (number, kind) + tuple(fields.get(name, 0) for name in REPORT_FIELDS)
+    return " ".join(str(value) for value in values)
 
 
 def report_words(line):

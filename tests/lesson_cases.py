@@ -1,0 +1,305 @@
+#!/usr/bin/env python3
+"""Tries tests/lesson.py: what it says of mistakes, that `make` gives back what `show` was given, and
+that `words` says what the lines say.
+
+    python3 tests/lesson_cases.py
+
+Exit status 1, with a line for each case that failed, if any did.
+"""
+
+import contextlib
+import glob
+import io
+import os
+import random
+import re
+import subprocess
+import sys
+import tempfile
+
+import lesson
+from model import Series, session
+from packed import *
+from sentences import NAMES, REASONS, REFUSALS, Teller
+from words import SIDE_WORDS, message_bytes, message_words, setup_bytes, setup_words
+
+HERE = os.path.dirname(os.path.abspath(__file__))
+SETUP = "setup call exempt M 1 K 10 strike 200"
+TOP = "whole number from 0 to %d"
+
+# Whole files, the line of the mistake, and what is wrong with it.
+FILES = [
+    ("", 1, "no setup in the file"),
+    ("\n# a remark\n\n", 3, "no setup in the file"),
+    ("  " + SETUP + "\n  open\n", 1, "an indented line is a report; 'setup' is no word for a report"),
+    (SETUP + "\n\topen\n", 2, "an indented line is a report; 'open' is no word for a report"),
+    (SETUP + "\nopen\n  rested buy 3 #1 99 x 5\n", 3, "an indented line is a report; 'x' stands in"),
+    ("open\n" + SETUP + "\n", 1, "a message before the setup"),
+    ("  noted\n" + SETUP + "\n", 1, "a report before the setup"),
+    (SETUP + "\nopen\n" + SETUP + "\n", 3, "a second setup"),
+    ("lesson a\n%s\nlesson b\n%s\n" % (SETUP, SETUP), 3, "a second lesson"),
+    ("lesson a\n%s\nlesson a\n%s\n" % (SETUP, SETUP), 3, "a second lesson is named 'a'"),
+    ("lesson a\nlesson b\n", 2, "no setup in lesson a"),
+    ("lesson\n" + SETUP + "\n", 1, "0 words after `lesson`"),
+    ("setup\n", 1, "call|put tested|exempt M STEP K STEPS strike STRIKE is missing"),
+    ("setup cal exempt M 1 K 10 strike 200\n", 1, "'cal' is neither call nor put"),
+    ("setup call exempt M 16 K 10 strike 200\n", 1, "'16' is no STEP, which is a " + TOP % 15),
+    ("setup call exempt M 1 K 128 strike 200\n", 1, "'128' is no STEPS, which is a " + TOP % 127),
+    ("setup call exempt M 1 K 10 strike 131072\n", 1, "'131072' is no STRIKE"),
+    ("setup call exempt m 1 K 10 strike 200\n", 1, "'m' stands in the place of M"),
+    (SETUP + " now\n", 1, "'now' is too much"),
+    ("setup bytes 44 50 03 20 00\n", 1, "5 bytes"),
+    ("setup bytes 44 50 03 2\n", 1, "'2' is no byte"),
+    ("setup bytes 44 50\nopen\n", 2, "a message where none can be told; the setup has fewer than 4"),
+    (SETUP + "\nbytes B0 00\nopen\n", 3, "a message where none can be told; the message above has"),
+    ("\x00\udcff\n", 1, "'\\x00\\\\xff' is no word for a message"),
+]
+# Messages, and what is wrong with them.
+MESSAGES = [
+    ("opne", "'opne' is no word for a message"), ("MMRP buy 3 225 x 50", "'MMRP' is no word"),
+    ("3", "'3' is no word for a message"), ("3 225 x 50", "'225' is no word for a message"),
+    ("open now", "'now' is too much"), ("phase", "PHASE is missing"),
+    ("phase 131072", "'131072' is no PHASE"), ("away 200", "OFFER is missing"),
+    ("away", "BID OFFER is missing"), ("away 200 220 240", "'240' is too much"),
+    ("away 200 2.20", "'2.20' is no OFFER, which is a " + TOP % 131071 + ", or none"),
+    ("away -1 none", "'-1' is no BID"), ("away 131072 none", "'131072' is no BID"),
+    ("underlying", "PRICE is missing"), ("underlying no", "'no' is no PRICE"),
+    ("enable", "MAKER is missing"), ("enable 128", "'128' is no MAKER, which is a " + TOP % 127),
+    ("mmrp buy 3 225 50", "'50' stands in the place of x"), ("mmrp buy 3 225 x", "QUANTITY is missing"),
+    ("mmrp 3 225 x 50", "'3' is neither buy nor sell"), ("mmrp buy 128 225 x 50", "'128' is no MAKER"),
+    ("mmrp buy 3 none x 50", "'none' is no LIMIT"), ("order buy 50 1_0 x 5", "'1_0' is no LIMIT"),
+    ("order buy 50 10 x 131072", "'131072' is no QUANTITY"), ("order buy 50 10 x 5 6", "'6' is too much"),
+    ("order buy 128 10 x 5", "'128' is no PARTY"), ("order buy 50 \u0663 x 5", "'\u0663' is no LIMIT"),
+    ("order buy 50 %s x 5" % ("9" * 5000), "'%s..' is no LIMIT" % ("9" * 30)),
+    ("cancel 50", "#ENTRY is missing"), ("cancel 50 ##3", "'##3' is no #ENTRY"),
+    ("cancel 50 #1048576", "'#1048576' is no #ENTRY, which is a " + TOP % 1048575),
+    ("withdraw 3", "buy|sell is missing"), ("withdraw buy 3", "'buy' is no MAKER"),
+    ("bytes", "0 bytes"), ("bytes 4 6", "'4' is no byte"), ("bytes" + " 00" * 12, "12 bytes"),
+]
+# What fits its field can be said, and the handler refuses it: message, refusal.
+REFUSED = [
+    ("mmrp buy 17 100 x 1", 2), ("order sell 127 131071 x 131071", 2), ("withdraw 127 sell", 2),
+    ("enable 0", 2), ("plain buy 3 0 x 1", 3), ("away 131071 none", 3), ("underlying 131071", 3),
+    ("dark buy 50 100 x 0", 4), ("phase 131071", 4), ("cancel 50 #1048575", 8), ("cancel 50 3", 8),
+    ("bytes FF" + " ff" * 10, 1), ("bytes b000", 1),
+]
+# What is said of the lesson worked out in docs/LESSONS.md.
+SAID = """\
+message 1 is noted: open
+message 2 is noted: away 180 210
+party 50's displayed sell order, entry 1, rests: shown 215, works 215, 10 contracts
+party 51's dark sell order, entry 2, rests: not shown, works 215, 4 contracts
+maker 4's MMRP buy quote, entry 3, rests: shown 205, works 210, 30 contracts
+party 50's displayed sell order, entry 1, is cancelled for 28 (owner asked): limit 215, 10 contracts
+message 7 is noted: away 180 none
+maker 4's MMRP buy quote, entry 3, trades as taker with party 51's dark sell order, entry 2: at 215, 4 contracts
+maker 4's MMRP buy quote, entry 3, is repriced: shown 220, works 220, 26 contracts
+"""
+SAID_ALONE = {
+    "5 refused 6": "message 5 is refused for 6 (the maker is blocked)",
+    "0 refused 1": "the setup is refused for 1 (length or values): no series",
+    "4 2 26 0 3 3 0 200 0 1": "party 3's buy, entry 3, is rejected for 26 (a put's bid at or above the"
+                              " strike): limit 200, 1 contract",
+    "7 3 0 1 4 3 2 215 0 4": "party 4's sell, entry 3, trades as taker with entry 2: at 215, 4 contracts",
+    "7 6 22 0 3 4 0 103 0 1": "the rest of party 3's buy, entry 4, is cancelled for 22 (shown too far from"
+                              " its limit): limit 103, 1 contract",
+}
+NO_LINES = ["", "open", "1 1 0 0 0 0 0 0 0", "1 7 0 0 0 0 0 0 0 0", "1 refused 12", "0 refused 2",
+            "0 1 0 0 0 0 0 0 0 0", "1 6 9 0 3 1 0 5 0 1", "1 4 0 2 3 1 0 5 5 1"]
+
+failures = []
+
+
+def expect(case, told, wanted):
+    if told != wanted:
+        failures.append("%s\n    wanted: %r\n    told:   %r" % (case, wanted, told))
+
+
+def run(*arguments, stdin=""):
+    """(status, what is printed, what is said on standard error) of one command."""
+    out, err = io.StringIO(), io.StringIO()
+    before, sys.stdin = sys.stdin, io.StringIO(stdin)
+    try:
+        with contextlib.redirect_stdout(out), contextlib.redirect_stderr(err):
+            status = lesson.main(list(arguments))
+    finally:
+        sys.stdin = before
+    return status, out.getvalue(), err.getvalue()
+
+
+def read(path, mode="r"):
+    with open(path, mode, encoding=None if "b" in mode else "utf-8") as file:
+        return file.read()
+
+
+def made(text):
+    """The lesson that `make` makes of a text, and what was said."""
+    with open("mine.txt", "w", encoding="utf-8", errors="surrogateescape") as file:
+        file.write(text)
+    with open("mine.bin", "wb") as file:
+        file.write(b"as before")
+    said = run("make", "mine.txt", "mine.bin")
+    return read("mine.bin", "rb"), said
+
+
+def try_mistakes():
+    cases = FILES + [("%s\n\n%s\nopen\n" % (SETUP, words), 3, wrong) for words, wrong in MESSAGES]
+    for text, line, wrong in cases:
+        data, (status, out, err) = made(text)
+        expect(repr(text[:90]), (data, status, out), (b"as before", 2, ""))
+        start = "mine.txt:%d: %s" % (line, wrong)
+        expect(repr(text[:90]), (err[:len(start)], "; expected" in err, err.count("\n")), (start, True, 1))
+    for words, refusal in REFUSED:
+        data, said = made("\ufeff%s\r\n1 open\n  noted\n# a remark\n%s\n" % (SETUP, words))
+        expect(words, (said, session(data)[1:]), ((0, "", ""), ["2 refused %d" % refusal]))
+    for arguments in (("show", "nothing.bin"), ("make", "nothing.txt", "mine.bin"), ("show", "."),
+                      ("make", "mine.txt", "no/mine.bin"), ("words", "nothing.bin"),
+                      ("make", "mine.txt", "mine.txt"), ("make", "mine.txt"), ("sing", "mine.bin")):
+        status, out, err = run(*arguments)
+        expect(" ".join(arguments), (status, out, err != ""), (2, "", True))
+
+
+def try_round_trips():
+    for path in every_lesson():
+        status, shown, err = run("show", path)
+        data, said = made(shown)
+        expect("show and make of " + path, (status, err, said), (0, "", (0, "", "")))
+        expect("show and make of " + path, data, read(path, "rb"))
+    dice = random.Random(1)
+    for number in range(3000):
+        kind = dice.choice(list(CARRIES))
+        top = {"party": 127, "side": 1, "entry": 1048575}
+        fields = {name: dice.choice((0, top.get(name, 131071), dice.randint(0, top.get(name, 131071))))
+                  for name in CARRIES[kind]}
+        data = Message(kind, **fields).pack()
+        expect("message %s" % data.hex(), message_bytes(message_words(data)), data)
+        data = dice.randbytes(dice.randint(1, 11))
+        expect("message %s" % data.hex(), message_bytes(message_words(data)), data)
+        data = dice.randbytes(dice.randint(0, 4))
+        expect("setup %s" % data.hex(), setup_bytes(setup_words(data)), data)
+
+
+def try_closed_pipes():
+    path = os.path.join(HERE, "recorded", "mixed-01")
+    for command in (["show", path + ".bin"], ["words", path + ".bin"]):
+        reading, writing = os.pipe()
+        os.close(reading)
+        with open(path + ".out") as lines:
+            done = subprocess.run([sys.executable, os.path.join(HERE, "lesson.py")] + command,
+                                  stdin=lines, stdout=writing, stderr=subprocess.PIPE)
+        os.close(writing)
+        expect(command[0] + " to a reader that is gone", done.stderr, b"")
+
+
+def every_lesson():
+    return sorted(glob.glob(os.path.join(HERE, "lessons", "*.bin"))
+                  + glob.glob(os.path.join(HERE, "recorded", "*.bin")))
+
+
+# ---------------------------------------------------------------- words
+
+ENTRY = r"(?:maker|party) (\d+)'s (plain|MMLO|MMALO|MMRP|displayed|dark) (buy|sell) (?:quote|order), entry (\d+)"
+TOLD = re.compile(r"(?:the rest of )?%s, (rests|is repriced|is rejected|is cancelled|trades)(?: for (\d+) \([^)]*\)"
+                  r"| as taker with %s)?: (?:shown (\d+), |not shown, )?(?:works|limit|at) (\d+), (\d+) contracts?$"
+                  % (ENTRY, ENTRY))
+KINDS = {"is rejected": 2, "trades": 3, "rests": 4, "is repriced": 5, "is cancelled": 6}
+
+
+def line_told(sentence):
+    """The nine fields that a sentence tells, and {entry: kind's name}; read back by itself."""
+    match = TOLD.match(sentence)
+    if match is None:
+        return sentence, {}
+    party, name, side, entry, done, reason, _, other_name, _, other, shown, price, quantity = match.groups()
+    if sentence.startswith("the rest of ") != (done == "is cancelled" and int(reason) <= 23):
+        return sentence, {}
+    both = (shown or 0, price) if done in ("rests", "is repriced") else (price, 0)
+    fields = (KINDS[done], reason or 0, SIDE_WORDS.index(side), party, entry, other or 0, *both, quantity)
+    names = {int(entry): name}
+    if other:
+        names[int(other)] = other_name
+    return " ".join(str(field) for field in fields), names
+
+
+def kinds_of(data):
+    """{entry: kind's name} of a lesson, by the model's own count of entries."""
+    series, kinds = Series(*unpack_setup(data[:4])), {}
+    for message in messages_of(data):
+        before = series.given
+        series.handle(message)
+        if series.given > before:
+            kinds[series.given] = NAMES[unpack_message(message).kind]
+    return kinds
+
+
+def try_words():
+    for path in every_lesson():
+        data, lines = read(path, "rb"), read(path[:-4] + ".out")
+        status, out, err = run("words", path, stdin=lines)
+        expect("words " + path, (status, err, len(out.split("\n"))), (0, "", len(lines.split("\n"))))
+        played = "/lessons/" in path and unpack_setup(data[:4]) is not None
+        kinds = kinds_of(data) if played else None
+        for line, both in zip(lines.split("\n")[:-1], out.split("\n")):
+            sentence = both[len(line):].strip()
+            expect("words " + path, both[:len(line)], line)
+            number, _, rest = line.partition(" ")
+            if rest.startswith("refused") or rest.startswith("1 0 "):
+                sent = message_words(messages_of(data)[int(number) - 1]) if number != "0" else "no series"
+                expect("words %s: %s" % (path, line), sentence.endswith(": " + sent), True)
+                continue
+            told, names = line_told(sentence)
+            expect("words %s: %s" % (path, line), told, rest)
+            if kinds is not None:
+                expect("kinds in %s: %s" % (path, line), names, {entry: kinds[entry] for entry in names})
+
+
+def try_words_alone():
+    for line, sentence in SAID_ALONE.items():
+        expect("words: " + line, Teller().sentence(line), sentence)
+    for line in NO_LINES:
+        status, out, err = run("words", stdin="1 refused 1\n%s\n" % line)
+        expect("words: " + line, (status, out.count("\n"), err[:8], "; expected" in err), (2, 1, "line 2: ", True))
+    for name in ("full-book-of-64", "refusal-1-bytes-that-hold-no-message", "examples-a-b-c"):
+        lines = read(os.path.join(HERE, "lessons", name + ".out"))
+        status, out, err = run("words", os.path.join(HERE, "lessons", "31-phases.bin"), stdin=lines)
+        expect("words of another lesson than " + name, (status, err[:5]), (2, "line "))
+
+
+def try_documents():
+    """README's lesson and the one of docs/LESSONS.md are as the commands print them."""
+    readme = read(os.path.join(HERE, "..", "README.md"))
+    path = os.path.join(HERE, "lessons", "26-example-k-puts-by-the-strike")
+    for text, count in ((run("show", path + ".bin")[1], 6), (read(path + ".out"), 7)):
+        block = "\n" + "".join("    %s\n" % line for line in text.split("\n")[:count]) + "\n"
+        expect("README: " + text.split("\n")[0], block in readme, True)
+    blocks = read(os.path.join(HERE, "..", "docs", "LESSONS.md")).split("```\n")
+    data, said = made(blocks[1])
+    expect("docs/LESSONS.md", (said, session(data)), ((0, "", ""), blocks[3].split("\n")[:-1]))
+    out = run("words", "mine.bin", stdin=blocks[3])[1]
+    expect("docs/LESSONS.md in words", [line[36:] for line in out.split("\n")], SAID.split("\n"))
+
+
+def try_tables():
+    """The reasons and refusals of README's tables are in the words that are said of them."""
+    tables, found = {**REASONS, **REFUSALS}, set()
+    for numbers, cell in re.findall(r"^\| ([\d, ]+) \| ([^|]*) \|$", read(os.path.join(HERE, "..", "README.md")), re.M):
+        meanings = cell.split(": ")[-1].split("; ") if "," in numbers else [cell]
+        for number, meaning in zip(numbers.split(", "), meanings):
+            if int(number) in tables:
+                found.add(int(number))
+                expect("README's %s" % number, set(meaning.split()) - set(tables[int(number)].split()), set())
+    expect("README's reasons and refusals", found, set(tables))
+
+
+if __name__ == "__main__":
+    with tempfile.TemporaryDirectory() as folder:
+        os.chdir(folder)
+        for part in (try_mistakes, try_round_trips, try_closed_pipes, try_words, try_words_alone,
+                     try_documents, try_tables):
+            part()
+        os.chdir(HERE)
+    if failures:
+        print("\n".join(failures[:40]))
+        sys.exit("lesson_cases: %d cases failed" % len(failures))
+    print("%d mistakes are named, %d lessons come back from their words, and each of their lines is told"
+          % (len(FILES) + len(MESSAGES), len(every_lesson())))
