@@ -25,7 +25,7 @@ use Rattle.arrival.specs.Terms.{marketOf}
 use Rattle.arrival.specs.Cancel.{Asks}
 use Rattle.arrival.specs.Take.{Taking, bound, taken, took}
 use Rattle.arrival.specs.Post.{stopFor}
-use Rattle.arrival.specs.Arrive.{rejectedBy, replaced, finished, entered, rejection, arrived}
+use Rattle.arrival.specs.Arrive.{rejectedBy, replaced, finished, entered, rejection}
 use Rattle.arrival.specs.Asks.{trades, Enters, Arrives, Goes, Takes, TakesOn, TookAs, takingOf, Finishes}
 use Rattle.settling.proofs.Settles.{sound-for}
 use Rattle.settling.proofs.StageLaws.{roomy-first, staged-list, staged-then, staged-room, staged-as, roomy-as}

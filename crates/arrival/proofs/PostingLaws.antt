@@ -2,7 +2,7 @@
 -- Assumes nothing.
 use Prim.Native.Nat.{ℕ}
 use mathlib.Core.Path.{_≡_, refl}
-use mathlib.Core.Bool.{Bool, false, cond}
+use mathlib.Core.Bool.{Bool, false}
 use Rattle.prices.specs.Aims.{minds, minded, aimDisplay, aimWorking, aims}
 
 pub unminded : (m kind : ℕ) (s : Bool) (l a c d : ℕ) → minds kind ≡ false → aims m kind s l a c ≡ aims m kind s l a d

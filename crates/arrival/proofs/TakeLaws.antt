@@ -35,7 +35,7 @@ use Rattle.sound.proofs.FrontLaws.{cost-is}
 use Rattle.sound.proofs.TradeLaws.{all-hit, hit-out}
 use Rattle.sound.proofs.KeepLaws.{here-facts, sound-hit}
 use Rattle.settling.specs.Tell.{traded}
-use Rattle.settling.proofs.Keeps.{stems-lessened, complete-tells, Stems, stems-start}
+use Rattle.settling.proofs.Keeps.{complete-tells}
 use Rattle.settling.proofs.Packs.{Packs, all-pack}
 use Rattle.arrival.specs.Take.{Taking, bound, shownOnly, tradeWith, takeAt, nextTake, chances, taken, took}
 use Rattle.arrival.specs.Arrive.{noneTraded}
@@ -160,10 +160,7 @@ module _ (cap : ℕ) (e : Entry) (t : Taking) where
     where
       more : {s u : Taking} {r : Report} → TakeStep cap e s r u → All P (s .book) → All P (u .book)
       more {s} (takes-from {j = j} {y = y} c some within) h = all-hit P j (min (s .left) (y .quantity)) (s .book) (λ x k p. f (min (s .left) (y .quantity)) x k p) h
-
-  -- EACH ENTRY LEFT IS ONE THAT WAS THERE, of the same number, party, kind, side and limit, and its display has not moved back
-  pub take-stems : All (Stems (t .book)) (taken cap e t .final .book)
-  take-stems = take-all (Stems (t .book)) (λ q x h s. stems-lessened q x s) (stems-start (t .book))
+      -- EACH ENTRY LEFT IS ONE THAT WAS THERE, of the same number, party, kind, side and limit, and its display has not moved back
 
 sound-step : {m top cap : ℕ} {e : Entry} {t u : Taking} {r : Report} → TakeStep cap e t r u → Sound m top (t .book) → Sound m top (u .book)
 sound-step {t = t} (takes-from {j = j} {y = y} c some within) so = sound-hit so j (min (t .left) (y .quantity))
@@ -299,12 +296,6 @@ module _ (k : Market) (e : Entry) (l : List Entry) where
   took-all P f a =
       took-either (λ (x : Ran Taking Report). All P (x .final .book)) (λ _. a)
       (λ _. take-all (bound k e) e (record { left = e .quantity; book = l }) P f a)
-
-  pub took-stems : All (Stems l) (took k e l .final .book)
-  unfolding still
-  took-stems =
-      took-either (λ (x : Ran Taking Report). All (Stems l) (x .final .book)) (λ _. stems-start l)
-      (λ _. take-stems (bound k e) e (record { left = e .quantity; book = l }))
 
   pub took-tells : (P : Report → Type 0) → (minds (e .kind) ≡ false → (y : Entry) (q : ℕ) → reaches (e .sell) (bound k e) (y .working) ≡ true → P (traded e y q))
       → All P (took k e l .records)

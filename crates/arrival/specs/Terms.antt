@@ -1,8 +1,6 @@
 -- What the rules read off a series' numbers.
 -- No rule of document 01 stands here, only words for the rules and for contracts.
 -- Assumes nothing.
-use Prim.Native.Nat.{ℕ}
-use mathlib.Core.Bool.{Bool}
 use Rattle.prices.specs.declared.Market.{Market}
 use Rattle.prices.specs.declared.Guard.{Guard}
 use Rattle.arrival.specs.declared.Terms.{Terms}

@@ -50,7 +50,7 @@ pub fn guard_of(t: Terms) -> Guard
 }
 
 // Price protection before this NBO or NBB, for quotes only: the reason to reject, or 0.
-pub fn protection_for(t: Terms, e: Entry, national: u32) -> u32
+fn protection_for(t: Terms, e: Entry, national: u32) -> u32
     requires { ⌜ Cents national (e .limit) ⌝ }
     ensures { λ r. ⌜ r ≡ protectionBefore t e national ⌝ }
 {
@@ -91,7 +91,7 @@ fn stops_at_once(b: Book, t: Terms, e: Entry, f: Facing, trading: bool) -> u32
 }
 
 // Why it is rejected, or 0.
-pub fn rejection_of(b: Book, t: Terms, e: Entry, f: Facing, trading: bool) -> u32
+fn rejection_of(b: Book, t: Terms, e: Entry, f: Facing, trading: bool) -> u32
     requires { ⌜ Decides t e f trading b ⌝ }
     ensures { λ r. ⌜ r ≡ rejection t e (entriesOf b) ⌝ }
 {
@@ -103,7 +103,7 @@ pub fn rejection_of(b: Book, t: Terms, e: Entry, f: Facing, trading: bool) -> u3
 }
 
 // It is rejected, and the maker's quotes that go with it are cancelled.
-pub fn reject(b: Book, e: Entry, why: u32, room: &mut [u8], n: &mut usize) -> Book
+fn reject(b: Book, e: Entry, why: u32, room: &mut [u8], n: &mut usize) -> Book
     requires { ⌜ Asks (rejectedBy why e (entriesOf b)) b (now room) (now n) ⌝ }
     ensures { λ r. ⌜ Staged (rejectedBy why e (entriesOf b)) (now (room .entry)) (now (n .entry)) r (now (room .exit)) (now (n .exit)) ⌝ }
 {

@@ -1,7 +1,7 @@
 -- One entry: what it shows, and what it is.
 -- Assumes nothing.
 use Prim.Native.Nat.{ℕ, _-_}
-use mathlib.Core.Bool.{Bool, true, false, not, _&&_, Bool·beq}
+use mathlib.Core.Bool.{Bool, not, _&&_, Bool·beq}
 use lib.Dec.{eqb, leb}
 use Rattle.prices.specs.declared.Prices.{Prices}
 use Rattle.book.specs.declared.Entry.{Entry}
@@ -20,15 +20,6 @@ display e = shownAs (e .limit) (e .pricing)
 -- "An entry is displayed interest if display equals working price."
 abbrev pub displayed : Entry → Bool
 displayed e = eqb (display e) (e .working)
-
--- it slides: it "carries a display price apart from its limit"
-abbrev pub slidesAs : Pricing → Bool
-slidesAs Fixed = false
-slidesAs Dark = false
-slidesAs (Sliding d) = true
-
-abbrev pub isSliding : Entry → Bool
-isSliding e = slidesAs (e .pricing)
 
 -- kinds 1 to 4 are quotes
 abbrev pub quote : Entry → Bool

@@ -2,7 +2,7 @@
 use crate::Entry;
 use crate::Pricing;
 ghost use mathlib.Core.Path.{_≡_};
-ghost use Rattle.book.specs.Entries.{display, displayed, isSliding, quote, against, own, quoteOf, priced};
+ghost use Rattle.book.specs.Entries.{display, displayed, quote, against, own, quoteOf, priced};
 ghost use Rattle.book.specs.Shape.{zeroEntry};
 
 // What stands in an unused place.
@@ -50,17 +50,6 @@ pub fn is_displayed(e: Entry) -> bool
     ensures { λ r. ⌜ r ≡ displayed e ⌝ }
 {
     display_of(e) == e.working
-}
-
-pub fn is_sliding_entry(e: Entry) -> bool
-    ensures { λ r. ⌜ r ≡ isSliding e ⌝ }
-{
-    let p = e.pricing;
-    match p {
-        Pricing::Fixed => false,
-        Pricing::Dark => false,
-        Pricing::Sliding(_) => true,
-    }
 }
 
 pub fn is_quote(e: Entry) -> bool

@@ -1,5 +1,4 @@
--- The answer in the words of the rules: who has a quote, the price that a side faces, NBO and NBB; and that there is only one answer. So far nothing above cites
--- `seat-tells`, `faced-contra` and `shown-national`: they are for a stage that takes its prices from the answer and does not look for them again.
+-- The answer in the words of the rules: who has a quote, the price that a side faces, NBO and NBB; and that there is only one answer.
 -- Assumes nothing.
 use Prim.Native.Nat.{ℕ, zero, suc, _+_, _-_, _≤_, _<_}
 use mathlib.Core.Path.{_≡_, refl, sym, ap, _∙_}

@@ -27,6 +27,7 @@ use Rattle.handler.specs.Accept.{comer, blockedAfter, seriesAfter}
 use Rattle.handler.specs.Handle.{Handled, refused, handled}
 use Rattle.handler.proofs.Ways.{Accepting, accepting, handled-accepted, handled-refused}
 use Rattle.handler.proofs.Passed.{Accepted, accepts, tests, maker-within}
+use Rattle.handler.proofs.HandleLaws.{enable-maker}
 
 -- a maker is blocked in a series
 abbrev pub isBlockedIn : Series → ℕ → Bool
@@ -55,9 +56,6 @@ module _ (s : Series) (a : Ask) (ok : Accepted s a) (flags : length (s .blocked)
   -- a maker has a flag
   party-flag : makersOnly a ≡ true → (1 ≤ a .party) × (a .party - 1 < length (s .blocked))
   party-flag q = let p = maker-within a q (tests s a ok .party) in (p .0, omega (arith, p .0, p .1, flags))
-
-  enable-flag : a .kind ≡ 12 → makersOnly a ≡ true
-  enable-flag k = rw k refl
 
   quote-flag : quotes a ≡ true → makersOnly a ≡ true
   quote-flag q = rw q refl
@@ -107,9 +105,9 @@ module _ (s : Series) (a : Ask) (ok : Accepted s a) (flags : length (s .blocked)
   blocking : Blocking s a (seriesAfter s a)
   blocking = record {
     blocked = λ q low. ap (λ (f : List Bool). getD f (a .party - 1) false) (blocked-is q low) ∙ own-flag true (quote-flag q);
-    enabled = λ k. ap (λ (f : List Bool). getD f (a .party - 1) false) (enabled-is k) ∙ own-flag false (enable-flag k);
+    enabled = λ k. ap (λ (f : List Bool). getD f (a .party - 1) false) (enabled-is k) ∙ own-flag false (enable-maker a k);
     others = λ maker one apart. by-ways (λ (f : List Bool). getD f (maker - 1) false ≡ isBlockedIn s maker)
-        (λ k. other-flag maker false one apart (enable-flag k)) (λ q. other-flag maker true one apart (quote-flag q)) refl;
+        (λ k. other-flag maker false one apart (enable-maker a k)) (λ q. other-flag maker true one apart (quote-flag q)) refl;
     same = same-is;
     flags = by-ways (λ (f : List Bool). length f ≡ 16) (λ k. length-set (s .blocked) (a .party - 1) false ∙ flags)
         (λ q. length-set (s .blocked) (a .party - 1) true ∙ flags) flags;
@@ -118,7 +116,7 @@ module _ (s : Series) (a : Ask) (ok : Accepted s a) (flags : length (s .blocked)
     where
       until : (maker : ℕ) → 1 ≤ maker → isBlockedIn s maker ≡ true → (a .kind ≡ 12 → maker ≡ a .party → ⊥) → isBlockedIn (seriesAfter s a) maker ≡ true
       until maker one h unnamed =
-          by-ways (λ (f : List Bool). getD f (maker - 1) false ≡ true) (λ k. other-flag maker false one (unnamed k) (enable-flag k) ∙ h)
+          by-ways (λ (f : List Bool). getD f (maker - 1) false ≡ true) (λ k. other-flag maker false one (unnamed k) (enable-maker a k) ∙ h)
           (λ q. go q (eqb maker (a .party)) refl) h
         where
           go : quotes a ≡ true → (b : Bool) → eqb maker (a .party) ≡ b → getD (set (s .blocked) (a .party - 1) true) (maker - 1) false ≡ true

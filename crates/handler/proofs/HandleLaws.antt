@@ -1,22 +1,21 @@
 -- What the handler's code comes to, test by test and stage by stage.
 -- Assumes nothing.
-use Prim.Native.Nat.{ℕ, _+_, _-_, _≤_, _<_}
+use Prim.Native.Nat.{ℕ, _+_, _≤_, _<_}
 use mathlib.Core.Path.{_≡_, refl, sym, ap, ap₂, _∙_, subst}
 use mathlib.Core.Bool.{Bool, true, false, cond, not, _&&_, _||_}
 use mathlib.Core.List.{List}
 use native.Mathlib.Omega.{arith}
 use lib.Dec.{eqb, leb}
 use lib.ListN.{length, getD}
-use borrow.Author.Tests.{leb-true, leb-false, le-leb, lt-leb, eq-eqb, ne-eqb, eqb-true, not-false}
+use borrow.Author.Tests.{leb-false, le-leb, lt-leb, ne-eqb}
 use Rattle.lists.specs.Choose.{Found, nowhere, found}
 use Rattle.lists.specs.Tests.{any}
-use Rattle.lists.proofs.Bools.{clash, and-left, and-right}
+use Rattle.lists.proofs.Bools.{clash}
 use Rattle.checking.specs.declared.Check.{Check}
 use Rattle.checking.specs.Summary.{seat, isFound, Summary}
 use Rattle.checking.proofs.SummaryLaws.{any-quote, seat-tells, faced-contra, shown-national}
 use Rattle.book.specs.declared.Entry.{Entry}
-use Rattle.book.specs.declared.Book.{Book}
-use Rattle.book.specs.Shape.{entriesOf, WellFormed}
+use Rattle.book.specs.Shape.{entriesOf}
 use Rattle.prices.specs.Side.{away}
 use Rattle.prices.specs.Protect.{bars24, bars25, bars26, firstBar, protection}
 use Rattle.book.specs.Entries.{quote, quoteOf}
@@ -31,28 +30,20 @@ use Rattle.arrival.specs.Asks.{Arriving, Faces, Enters}
 use Rattle.series.specs.declared.Series.{Series}
 use Rattle.handler.specs.declared.Ask.{Ask}
 use Rattle.handler.specs.Asked.{enters, quotes}
-use Rattle.handler.specs.Refuse.{makersOnly, badParty, isFull, isNowhere, isMissing, goneAt, refusalOf}
+use Rattle.handler.specs.Refuse.{makersOnly, badParty, isFull, isNowhere, goneAt}
 use Rattle.handler.specs.Accept.{comer, termsAfter}
-use Rattle.handler.specs.Acts.{Whole, Acts, facingBy, BlocksFor}
-use Rattle.handler.proofs.Passed.{Accepted, facts, tests, accepted-arriving}
+use Rattle.handler.specs.Acts.{Acts, facingBy, BlocksFor}
+use Rattle.handler.proofs.Passed.{Accepted, facts, tests, accepted-arriving, within, maker-within}
 
 -- ---- the party ----
-
-inside : (low high x : ℕ) → not (between low high x) ≡ false → (low ≤ x) × (x ≤ high)
-inside low high x h =
-    let k : between low high x ≡ true = not-false (between low high x) h in
-    (leb-true low x (and-left (leb low x) (leb x high) k), leb-true x high (and-right (leb low x) (leb x high) k))
-
-pub maker-party : (a : Ask) → makersOnly a ≡ true → badParty a ≡ false → (1 ≤ a .party) × (a .party ≤ 16)
-maker-party a q h = inside 1 16 (a .party) (rw q at h)
 
 pub any-party : (a : Ask) → a .kind ≤ 8 → badParty a ≡ false → (1 ≤ a .party) × (a .party ≤ 99)
 any-party a k h = by (makersOnly a) refl (leb (a .kind) 7) refl h
   where
     by : (b : Bool) → makersOnly a ≡ b → (d : Bool) → leb (a .kind) 7 ≡ d → cond b (not (between 1 16 (a .party))) (cond d (not (between 1 99 (a .party))) false) ≡ false
         → (1 ≤ a .party) × (a .party ≤ 99)
-    by true q d u g = let p = inside 1 16 (a .party) g in (p .0, omega (arith, p .1))
-    by false q true u g = inside 1 99 (a .party) g
+    by true q d u g = let p = within 1 16 (a .party) g in (p .0, omega (arith, p .1))
+    by false q true u g = within 1 99 (a .party) g
     by false q false u g = absurd (eight (a .kind) (omega (arith, leb-false (a .kind) 7 u)) q)
       where
         eight : (n : ℕ) → n ≡ 8 → (leb n 4 || (eqb n 8 || eqb n 12)) ≡ false → ⊥
@@ -62,7 +53,7 @@ pub quote-maker : (a : Ask) → a .kind ≤ 4 → makersOnly a ≡ true
 quote-maker a k = rw (le-leb (a .kind) 4 k)
 
 pub quote-party : (a : Ask) → a .kind ≤ 4 → badParty a ≡ false → (1 ≤ a .party) × (a .party ≤ 16)
-quote-party a k h = maker-party a (quote-maker a k) h
+quote-party a k h = maker-within a (quote-maker a k) h
 
 pub cancel-maker : (a : Ask) → a .kind ≡ 8 → makersOnly a ≡ true
 cancel-maker a k = rw k

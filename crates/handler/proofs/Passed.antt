@@ -97,7 +97,7 @@ accepts s e h k = record { sound = h; kind = ask-kind e .0; passes = k }
 
 -- ---- what the tests say ----
 
-within : (low high x : ℕ) → not (between low high x) ≡ false → (low ≤ x) × (x ≤ high)
+pub within : (low high x : ℕ) → not (between low high x) ≡ false → (low ≤ x) × (x ≤ high)
 within low high x h = between-both low high x (not-false (between low high x) h)
 
 -- where the quote that is to be replaced rests, cutting it leaves one entry less

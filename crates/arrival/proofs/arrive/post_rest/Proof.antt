@@ -1,6 +1,5 @@
-use Rattle.prices.specs.declared.Prices.{Prices}
 use Rattle.arrival.specs.Post.{resting}
-use mathlib.Core.Path.{sym, ap, _∙_}
+use mathlib.Core.Path.{ap, _∙_}
 use Rattle.arrival.proofs.EnterLaws.{rest-room, rest-done}
 use borrow.Author.Needs.{needs}
 use Rattle.arrival.proofs.arrive.post_rest.Statement.{statement}

@@ -1,6 +1,6 @@
 use Rattle.book.specs.Shape.{entriesOf}
 use borrow.Author.Tests.{not-true, not-false}
-use mathlib.Core.Path.{sym, ap, _∙_}
+use mathlib.Core.Path.{sym, _∙_}
 use Rattle.arrival.proofs.EnterLaws.{enters-posts, once-order, once-trades, once-stops}
 use borrow.Author.Needs.{needs}
 use Rattle.arrival.proofs.arrive.stops_at_once.Statement.{statement}

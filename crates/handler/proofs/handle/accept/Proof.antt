@@ -1,6 +1,5 @@
 use Rattle.book.specs.Shape.{entriesOf}
-use mathlib.Core.Path.{sym, ap, _∙_}
-use Rattle.handler.proofs.Stages.{then-sound}
+use mathlib.Core.Path.{sym, _∙_}
 use Rattle.lists.proofs.Bools.{and-left}
 use Rattle.handler.proofs.AcceptLaws.{settles-next, accept-done}
 use Rattle.handler.proofs.HandleLaws.{acts-accepted}

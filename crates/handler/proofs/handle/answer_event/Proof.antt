@@ -1,4 +1,4 @@
-use mathlib.Core.Path.{sym, ap, _∙_}
+use mathlib.Core.Path.{sym, _∙_}
 use Rattle.handler.proofs.AcceptLaws.{judged-refused, judged-accepted}
 use Rattle.series.proofs.SeriesFacts.{series-facts}
 use Rattle.handler.proofs.Passed.{ask-kind}

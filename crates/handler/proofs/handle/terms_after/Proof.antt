@@ -1,4 +1,3 @@
-use native.Mathlib.Omega.{arith}
 use Rattle.handler.proofs.HandleLaws.{terms-enters, terms-away, terms-under, terms-phase, terms-same}
 use borrow.Author.Needs.{needs}
 use Rattle.handler.proofs.handle.terms_after.Statement.{statement}

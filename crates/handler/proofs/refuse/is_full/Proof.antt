@@ -4,7 +4,6 @@ use Rattle.book.specs.Shape.{entriesOf}
 use Rattle.book.proofs.ShapeLaws.{length-entries}
 use Rattle.handler.proofs.HandleLaws.{quote-party, full-none, full-space, full-order, full-quote, seat-empty}
 use mathlib.Core.Bool.{not}
-use borrow.Author.Needs.{needs}
 use Rattle.handler.proofs.refuse.is_full.Statement.{statement}
 use Rattle.handler.proofs.refuse.is_full.Tie as tie
 

@@ -4,8 +4,9 @@ use mathlib.Core.Path.{ap, _∙_}
 use Rattle.book.specs.Shape.{entriesOf}
 use mathlib.Core.Bool.{not}
 use Rattle.book.specs.Look.{entryOf}
-use Rattle.handler.proofs.HandleLaws.{any-party, maker-party, cancel-maker, seat-empty, gone}
+use Rattle.handler.proofs.HandleLaws.{any-party, cancel-maker, seat-empty, gone}
 use Rattle.handler.specs.Refuse.{goneAt}
+use Rattle.handler.proofs.Passed.{maker-within}
 use borrow.Author.Needs.{needs}
 use Rattle.handler.proofs.refuse.is_missing.Statement.{statement}
 use Rattle.handler.proofs.refuse.is_missing.Tie as tie
@@ -23,15 +24,15 @@ returns : tie.Need-returns
 returns c = rw (c .before .before .before .if1 .taken) (c .is-gone .ensures ∙ ap goneAt (c .before .find-entry .ensures) ∙ gone (entryOf (c .before .before .before .before .before .args .a .party) (c .before .before .before .before .before .args .a .entry) (entriesOf (c .before .before .before .before .before .args .b))))
 
 cast-party-2 : tie.Need-cast-party-2
-cast-party-2 c = let s = c .before .before .before .before .before in omega (arith, maker-party (s .args .a) (cancel-maker (s .args .a) (c .before .if2 .taken)) (s .pre .0) .1)
+cast-party-2 c = let s = c .before .before .before .before .before in omega (arith, maker-within (s .args .a) (cancel-maker (s .args .a) (c .before .if2 .taken)) (s .pre .0) .1)
 
 has-quote-requires : tie.Need-has-quote-requires
-has-quote-requires c κs = let s = c .before .before .before .before .before in maker-party (s .args .a) (cancel-maker (s .args .a) (c .before .if2 .taken)) (s .pre .0) .1
+has-quote-requires c κs = let s = c .before .before .before .before .before in maker-within (s .args .a) (cancel-maker (s .args .a) (c .before .if2 .taken)) (s .pre .0) .1
 
 returns-2 : tie.Need-returns-2
 returns-2 c =
     let s = c .before .before .before .before .before .before in
-    let p = maker-party (s .args .a) (cancel-maker (s .args .a) (c .before .before .if2 .taken)) (s .pre .0) in
+    let p = maker-within (s .args .a) (cancel-maker (s .args .a) (c .before .before .if2 .taken)) (s .pre .0) in
     rw (c .before .before .if2 .taken) (ap not (c .has-quote .ensures) ∙ seat-empty (s .pre .1 .1) (s .args .a .party) (s .args .a .sell) (p .0) (p .1))
 
 returns-3 : tie.Need-returns-3
