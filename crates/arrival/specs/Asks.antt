@@ -99,7 +99,7 @@ pub record Arrives (t : Terms) (e : Entry) (f : Facing) (b : Book) (room : List 
   pub enters : Enters t e f b
   pub roomy : Roomy room n (arrived t e (entriesOf b) .records)
 
--- one that is not rejected
+-- one that goes on, with room for it; that it is not rejected is the caller's to know
 pub record Goes (t : Terms) (e : Entry) (f : Facing) (trading : Bool) (b : Book) (room : List ℕ) (n : ℕ) : Type 0 where
   pub decides : Decides t e f trading b
   pub roomy : Roomy room n (entered t e (entriesOf b) .records)

@@ -30,7 +30,7 @@ bound k e = upTo (e .sell) (away k (e .sell)) (e .limit)
 abbrev pub shownOnly : Entry → Bool
 shownOnly e = eqb (e .kind) 2
 
--- a price, 0 for none, and within a bound
+-- a price, 0 for none, and within a bound: a word for the code, which asks it of C before it looks for anybody
 abbrev pub offered : Bool → ℕ → ℕ → Bool
 offered s cap p = not (eqb p 0) && reaches s cap p
 

@@ -73,7 +73,7 @@ abbrev pub firstHolding : List (ℕ × Bool) → ℕ
 firstHolding [] = 0
 firstHolding (t ∷ ts) = cond (t .1) (t .0) (firstHolding ts)
 
--- THE LIST, in document 01's order, from 2 on: 10, 11 and 1, which come before an event is known, stand in Handle (`handled`, `heard`)
+-- THE LIST, in document 01's order, from 2 on: 10, 11 and 1, which come before an event is known, stand in Handle (`beforeReading`, `heard`)
 abbrev pub refusals : Series → Ask → List (ℕ × Bool)
 refusals s a =
     (2, badParty a)

@@ -162,3 +162,20 @@ passed-bid g nbo bid h f = clash (far-bid nbo bid f) (none-24 (bars25 g false bi
 pub passed-offer : (g : Guard) (nbb offer : ℕ) → protection g true nbb offer ≡ 0 → FarOffer nbb offer → ⊥
 unfolding protection
 passed-offer g nbb offer h f = clash (far-offer nbb offer f) (none-24 (bars25 g true offer) (bars26 g true offer) (bars24 true nbb offer) h)
+
+-- too far, and neither 25 nor 26
+only-24 : (a b c : Bool) → c ≡ true → (firstBar a b c ≡ 25 → ⊥) → (firstBar a b c ≡ 26 → ⊥) → firstBar a b c ≡ 24
+only-24 true b c h k l = absurd (k refl)
+only-24 false true c h k l = absurd (l refl)
+only-24 false false true h k l = refl
+only-24 false false false h k l = clash h refl
+
+pub tells-24-bid : (g : Guard) (nbo bid : ℕ) → FarBid nbo bid → (protection g false nbo bid ≡ 25 → ⊥) → (protection g false nbo bid ≡ 26 → ⊥)
+    → protection g false nbo bid ≡ 24
+unfolding protection
+tells-24-bid g nbo bid f k l = only-24 (bars25 g false bid) (bars26 g false bid) (bars24 false nbo bid) (far-bid nbo bid f) k l
+
+-- an offer is never told 25 or 26
+pub tells-24-offer : (g : Guard) (nbb offer : ℕ) → FarOffer nbb offer → protection g true nbb offer ≡ 24
+unfolding protection
+tells-24-offer g nbb offer f = rw (far-offer nbb offer f) refl
