@@ -149,6 +149,9 @@ module _ {s : Series} {check : Check} {a : Ask} (x : Acts s check a) where
     faces = subst (Faces (s .terms) e (entriesOf (s .book))) (sym p) (acts-faces e);
   }
 
+pub same-facing : {c c′ n n′ : ℕ} → c ≡ c′ → n ≡ n′ → _≡_ {A = Facing} (record { contra = c; national = n }) (record { contra = c′; national = n′ })
+same-facing p q = λ i. record { contra = p i; national = q i }
+
 -- 25 and 26 are told by the series' numbers and the limit alone
 pub blocks-by : (t : Terms) (e : Entry) (l : List Entry) → quote e ≡ true
     → (bars25 (guardOf t) (e .sell) (e .limit) || bars26 (guardOf t) (e .sell) (e .limit)) ≡ blocks t e l

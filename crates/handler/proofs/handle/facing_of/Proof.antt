@@ -1,4 +1,8 @@
-use mathlib.Core.Path.{refl}
+use mathlib.Core.Path.{ap, ap₂, _∙_}
+use mathlib.Core.Bool.{Bool}
+use Rattle.prices.specs.declared.Market.{Market}
+use Rattle.prices.specs.Side.{away, nearer}
+use Rattle.handler.proofs.HandleLaws.{same-facing}
 use borrow.Author.Needs.{needs}
 use Rattle.handler.proofs.handle.facing_of.Statement.{statement}
 use Rattle.handler.proofs.handle.facing_of.Tie as tie
@@ -19,7 +23,12 @@ nearer-of-requires : tie.Need-nearer-of-requires
 nearer-of-requires c κs = search needs
 
 returns : tie.Need-returns
-returns c = rw (c .nearer-of .ensures, c .before .price-faced .ensures, c .before .before .away-of .ensures, c .before .before .before .market-of .ensures, c .before .before .before .before .price-shown .ensures) refl
+returns c =
+    let s : Bool = c .before .before .before .before .before .args .sell in
+    same-facing (c .before .price-faced .ensures)
+    (c .nearer-of .ensures
+    ∙ ap₂ (nearer s) (c .before .before .away-of .ensures ∙ ap (λ (k : Market). away k s) (c .before .before .before .market-of .ensures))
+    (c .before .before .before .before .price-shown .ensures))
 
 pub facing-of-spec : {M : Type 1} → statement M
 facing-of-spec =
