@@ -43,17 +43,26 @@ def look(counts, series, before, data, answer):
     if len(data) < 11:
         counts["short last message"] += 1
     if refusal != 0:
-        counts["refused %d" % refusal] += 1
-        if refusal == 7:
-            counts["refused 7: %s" % ("new quote" if message.kind in QUOTES else "order")] += 1
-        if refusal == 6:
-            counts["blocked maker refused"] += 1
-        if refusal == 8 and message.kind == CANCEL_ENTRY and message.entry in before:
-            counts["cancel of another's entry"] += 1
+        look_at_refusal(counts, before, message, refusal)
         return
     counts["kind %d" % message.kind] += 1
-    kinds = [fields[0] for fields in reports]
-    reasons = [fields[1] for fields in reports]
+    look_at_reports(counts, series, before, message, reports)
+    look_at_arrival(counts, series, before, message, reports)
+    look_at_settling(counts, series, reports)
+    look_at_book(counts, series)
+
+
+def look_at_refusal(counts, before, message, refusal):
+    counts["refused %d" % refusal] += 1
+    if refusal == 7:
+        counts["refused 7: %s" % ("new quote" if message.kind in QUOTES else "order")] += 1
+    if refusal == 6:
+        counts["blocked maker refused"] += 1
+    if refusal == 8 and message.kind == CANCEL_ENTRY and message.entry in before:
+        counts["cancel of another's entry"] += 1
+
+
+def look_at_reports(counts, series, before, message, reports):
     for kind, reason, side, party, number, other, price, second, quantity in reports:
         counts["report %d" % kind] += 1
         if kind == REJECTED:
@@ -71,6 +80,11 @@ def look(counts, series, before, data, answer):
             counts["sliding display apart from working"] += price != second
             counts["display at M"] += price == series.m and price != second
             counts["display at 100,000"] += price == TOP_PRICE and price != second
+
+
+def look_at_arrival(counts, series, before, message, reports):
+    kinds = [fields[0] for fields in reports]
+    reasons = [fields[1] for fields in reports]
     counts["replaced in a full book"] += len(before) == BOOK_SIZE and 27 in reasons
     counts["maker's own opposite quote cancelled 29"] += 29 in reasons
     counts["both quotes cancelled 30"] += reasons.count(30) == 2
@@ -86,6 +100,9 @@ def look(counts, series, before, data, answer):
         bid, offer = message.price, message.second
         counts["away missing"] += bid == 0 or offer == 0
         counts["away locked or crossed"] += bid != 0 and offer != 0 and bid >= offer
+
+
+def look_at_settling(counts, series, reports):
     for name, number in series.steps.items():
         counts["step " + name] += number
     steps = sum(series.steps.values())
@@ -95,6 +112,9 @@ def look(counts, series, before, data, answer):
         series.steps["easing"] > 0 and series.steps["move"] > 0
     moved = [fields[4] for fields in reports if fields[0] == REPRICED]
     counts["move frees another"] += len(moved) != len(set(moved))
+
+
+def look_at_book(counts, series):
     for entry in series.book:
         counts["working at limit, display not"] += entry.kind in SLIDING \
             and entry.working == entry.limit != entry.display

@@ -89,7 +89,11 @@ def class_examples():
     add("protection", 1, 0, 200, NONE, BUY, NONE, 199, says="0")
     # l. The dark sell at 221 is in the way of what is left of MMLO buy 222: rest cancelled 21.
     add("stop", 1, 10, MMLO, BUY, 222, NONE, 1, 222, says="21")
-    # The session. Away 200/220, sell 222 in book: MMRP buy 225 rests 219/220.
+    worked_session()
+
+
+def worked_session():
+    # Away 200/220, sell 222 in book: MMRP buy 225 rests 219/220.
     add_both(MMRP, 225, 220, 222, 1, says="0 219 220")
     add("stop", 1, 10, MMRP, BUY, 225, 220, 0, 219, says="0")
     # Away offer 219: it drops to 219, stays displayed at 219 ("leaves it there"), and has then nothing to do.

@@ -8,12 +8,17 @@ from packed import *
 
 def unsound(series):
     """The first reason why the state is not sound, or ""."""
-    m, phase, book = series.m, series.phase, series.book
+    m, book = series.m, series.book
 
     def legal(price):
         return m <= price <= TOP_PRICE and price % m == 0
 
-    if not legal_setup(m, series.k, series.strike):
+    return unsound_numbers(series, legal) or unsound_entries(series, legal) or crossed(book)
+
+
+def unsound_numbers(series, legal):
+    phase, book = series.phase, series.book
+    if not legal_setup(series.m, series.k, series.strike):
         return "setup"
     if phase not in (CLOSED, OPEN, HALTED):
         return "phase"
@@ -33,9 +38,12 @@ def unsound(series):
         return "ranks not distinct"
     if phase == CLOSED and book:
         return "something rests in a closed series"
+    return ""
 
+
+def unsound_entries(series, legal):
     quotes = set()
-    for entry in book:
+    for entry in series.book:
         if not 1 <= entry.number <= series.given:
             return "entry number not among those given"
         if entry.kind not in ENTERING or entry.side not in (BUY, SELL):
@@ -47,15 +55,18 @@ def unsound(series):
         if not 1 <= entry.party <= (TOP_MAKER if entry.kind in QUOTES else TOP_PARTY):
             return "party"
         if entry.kind in QUOTES:
-            if phase == HALTED:
+            if series.phase == HALTED:
                 return "a quote rests in a halted series"
             if (entry.party, entry.side) in quotes:
                 return "two quotes of one maker and side"
             quotes.add((entry.party, entry.side))
-        wrong = unsound_prices(entry, m, legal)
+        wrong = unsound_prices(entry, series.m, legal)
         if wrong:
             return wrong
+    return ""
 
+
+def crossed(book):
     buys = [entry.working for entry in book if entry.side == BUY]
     sells = [entry.working for entry in book if entry.side == SELL]
     if buys and sells and max(buys) >= min(sells):

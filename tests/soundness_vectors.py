@@ -185,6 +185,14 @@ def each_entry(m):
     b = base(m)
     bid, offer = 200 * m, 220 * m
     case(b, True)
+    numbers_and_sizes(b)
+    parties(b)
+    kinds_and_pricing(b, m, bid)
+    prices(b, m, bid, offer)
+    sides(b, m, bid, offer)
+
+
+def numbers_and_sizes(b):
     for place in (0, 5, 10):
         changed(b, place, False, number=0)
         changed(b, place, True, number=40)
@@ -203,6 +211,9 @@ def each_entry(m):
     # numbers: of two entries, next to each other, first and last, and above all others
     for one, other in ((0, 1), (0, 10), (9, 10), (7, 1), (3, 2)):
         changed(b, one, False, number=b["entries"][other]["number"])
+
+
+def parties(b):
     # parties: makers are 1 to 16, others 1 to 99
     for place in (0, 1, 2, 3):
         changed(b, place, True, party=15)
@@ -220,6 +231,9 @@ def each_entry(m):
     changed(b, 8, True, party=1)
     changed(b, 9, False, party=1)
     changed(b, 4, True, party=4)
+
+
+def kinds_and_pricing(b, m, bid):
     # the kind and how the entry is priced
     changed(b, 0, True, kind=2)
     changed(b, 0, True, kind=5)
@@ -238,6 +252,9 @@ def each_entry(m):
     changed(b, 6, False, pricing=SLIDING, display=bid)
     changed(b, 2, False, pricing=FIXED, display=0)
     changed(b, 2, False, pricing=DARK, display=0)
+
+
+def prices(b, m, bid, offer):
     # what is fixed or dark works at the limit
     for place in (0, 1, 4, 5, 6):
         at = b["entries"][place]["limit"]
@@ -255,6 +272,9 @@ def each_entry(m):
     changed(b, 2, False, working=0)
     changed(b, 3, False, working=0)
     changed(b, 3, False, display=100000 + m, working=100000)
+
+
+def sides(b, m, bid, offer):
     # every buy below every sell, dark ones too: the dark sell at the offer, the dark buy at the bid
     for sell, ought in ((bid + m, True), (bid, False), (bid - m, False)):
         changed(b, 5, ought, limit=sell, working=sell)
