@@ -12,10 +12,10 @@ use Rattle.lists.proofs.TestLaws.{all-snoc}
 use Rattle.packing.specs.declared.report.Report.{Report}
 use Rattle.book.specs.declared.Entry.{Entry}
 use Rattle.book.specs.Entries.{quote, lessened}
-use Rattle.settling.specs.Tell.{cancelled}
-use Rattle.settling.proofs.Keeps.{complete-tells}
-use Rattle.arrival.specs.declared.Terms.{Terms}
-use Rattle.arrival.specs.Terms.{marketOf}
+use Rattle.telling.specs.Tell.{cancelled}
+use Rattle.lists.proofs.RunLaws.{complete-tells}
+use Rattle.terms.specs.declared.Terms.{Terms}
+use Rattle.terms.specs.Terms.{marketOf}
 use Rattle.arrival.specs.Cancel.{cut, cutQuote, sweep}
 use Rattle.arrival.specs.Take.{Taking}
 use Rattle.arrival.specs.Post.{pricesOf, resting, stopFor}

@@ -20,16 +20,15 @@ use Rattle.packing.proofs.ReportLaws.{rejected-packs, cancelled-packs}
 use Rattle.book.specs.declared.Entry.{Entry}
 use Rattle.book.specs.Entries.{quote}
 use Rattle.book.specs.Change.{post}
-use Rattle.sound.specs.Sound.{soundEntries}
-use Rattle.sound.proofs.Facts.{EntryFacts, Clear, PairFacts, Sound}
-use Rattle.sound.proofs.Decides.{sound-is}
-use Rattle.sound.proofs.KeepLaws.{here-facts, sound-post, sound-higher}
-use Rattle.settling.specs.Tell.{rejected, rested, cancelled}
-use Rattle.settling.proofs.EaseRule.{MarketFacts}
-use Rattle.settling.proofs.Packs.{pack-append}
-use Rattle.settling.proofs.Settles.{sound-for}
-use Rattle.arrival.specs.declared.Terms.{Terms}
-use Rattle.arrival.specs.Terms.{marketOf}
+use Rattle.soundness_theory.specs.Sound.{soundEntries}
+use Rattle.soundness_theory.proofs.Facts.{EntryFacts, Clear, PairFacts, Sound}
+use Rattle.soundness_theory.proofs.SoundFacts.{sound-is}
+use Rattle.soundness_theory.proofs.KeepLaws.{here-facts, sound-post, sound-higher}
+use Rattle.telling.specs.Tell.{rejected, rested, cancelled}
+use Rattle.soundness_theory.proofs.MarketFacts.{MarketFacts, sound-for}
+use Rattle.telling.proofs.PackLaws.{pack-append}
+use Rattle.terms.specs.declared.Terms.{Terms}
+use Rattle.terms.specs.Terms.{marketOf}
 use Rattle.arrival.specs.Cancel.{cutQuote}
 use Rattle.arrival.specs.Take.{Taking, took}
 use Rattle.arrival.specs.Post.{pricesOf, resting, stopFor}

@@ -19,9 +19,9 @@ use Rattle.book.specs.declared.Entry.{Entry}
 use Rattle.book.specs.Entries.{quote, quoteOf}
 use Rattle.book.specs.Look.{quoteIn}
 use Rattle.book.proofs.LookLaws.{quote-tells}
-use Rattle.settling.specs.Tell.{rejected, traded, rested, cancelled}
-use Rattle.arrival.specs.declared.Terms.{Terms}
-use Rattle.arrival.specs.Terms.{marketOf}
+use Rattle.telling.specs.Tell.{rejected, traded, rested, cancelled}
+use Rattle.terms.specs.declared.Terms.{Terms}
+use Rattle.terms.specs.Terms.{marketOf}
 use Rattle.arrival.specs.Cancel.{cut, cutQuote}
 use Rattle.arrival.specs.Take.{Taking, bound, took}
 use Rattle.arrival.specs.Post.{pricesOf, resting, stopFor}

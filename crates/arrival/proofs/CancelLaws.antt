@@ -20,10 +20,10 @@ use Rattle.book.specs.Entries.{quoteOf}
 use Rattle.book.specs.Look.{rankOf, quoteIn}
 use Rattle.book.proofs.ShapeLaws.{length-entries}
 use Rattle.book.proofs.LookLaws.{quote-tells}
-use Rattle.settling.specs.Tell.{cancelled}
-use Rattle.settling.specs.Stage.{Roomy, Staged}
+use Rattle.telling.specs.Tell.{cancelled}
+use Rattle.telling.specs.Stage.{Roomy, Staged}
 use Rattle.arrival.specs.Cancel.{cut, cutRank, Inside, cutQuote, Asks, CutsRank}
-use Rattle.settling.proofs.StageLaws.{staged-as}
+use Rattle.telling.proofs.StageLaws.{staged-as}
 
 -- ---- what a search found goes, by its rank ----
 

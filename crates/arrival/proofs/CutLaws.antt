@@ -22,8 +22,8 @@ use Rattle.book.specs.declared.Entry.{Entry}
 use Rattle.book.specs.Entries.{quote, own, quoteOf}
 use Rattle.book.specs.Look.{entryOf, quoteIn}
 use Rattle.book.proofs.LookLaws.{entry-tells, quote-tells}
-use Rattle.sound.proofs.Facts.{EntryFacts, PairFacts, Sound}
-use Rattle.sound.proofs.KeepLaws.{here-facts, others, sound-without}
+use Rattle.soundness_theory.proofs.Facts.{EntryFacts, PairFacts, Sound}
+use Rattle.soundness_theory.proofs.KeepLaws.{here-facts, others, sound-without}
 use Rattle.arrival.specs.Cancel.{cut, cutQuote, cancelEntry, cancelQuote}
 
 -- ---- one that is found goes, whatever the search ----

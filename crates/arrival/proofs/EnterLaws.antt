@@ -29,23 +29,22 @@ use Rattle.book.specs.Shape.{entriesOf, bookOf, WellFormed, Space}
 use Rattle.book.specs.Change.{post}
 use Rattle.book.proofs.ShapeLaws.{book-of-entries, fits-64}
 use Rattle.book.proofs.ChangeLaws.{post-fits}
-use Rattle.sound.proofs.Facts.{EntryFacts, PricedAs, Sound}
-use Rattle.sound.proofs.FrontLaws.{given-nearest, given-contra}
-use Rattle.settling.specs.Tell.{rejected, traded, rested, cancelled}
-use Rattle.settling.specs.Stage.{soundMarket, Roomy, Staged}
-use Rattle.settling.proofs.EaseRule.{MarketFacts, market-facts}
-use Rattle.settling.proofs.Settles.{sound-for}
-use Rattle.arrival.specs.declared.Terms.{Terms}
+use Rattle.soundness_theory.proofs.Facts.{EntryFacts, PricedAs, Sound}
+use Rattle.soundness_theory.proofs.FrontLaws.{given-nearest, given-contra}
+use Rattle.telling.specs.Tell.{rejected, traded, rested, cancelled}
+use Rattle.soundness_theory.specs.SoundMarket.{soundMarket}
+use Rattle.telling.specs.Stage.{Roomy, Staged, Put}
+use Rattle.soundness_theory.proofs.MarketFacts.{MarketFacts, market-facts, sound-for}
+use Rattle.terms.specs.declared.Terms.{Terms}
 use Rattle.arrival.specs.declared.Facing.{Facing}
 use Rattle.arrival.specs.declared.take.Trade.{Trade}
-use Rattle.arrival.specs.Terms.{marketOf}
+use Rattle.terms.specs.Terms.{marketOf}
 use Rattle.arrival.specs.Cancel.{Asks, cutQuote}
-use Rattle.settling.specs.Stage.{Put}
 use Rattle.arrival.specs.Take.{Taking, bound, offered, nextTake, chances, taken, took}
 use Rattle.arrival.specs.Post.{pricesBefore, pricesOf, resting, stopFor, Posts}
 use Rattle.arrival.specs.Arrive.{told, ofQuotes, bothQuotes, rejectedBy, posted, remainder, cancelledRest, finished, entered, noneTraded, stopsAtOnce, protectionBefore, protectionFor, orElse, rejection, arrivedAs, arrived}
 use Rattle.arrival.specs.Asks.{trades, Arriving, Enters, tradeAs, NextTrade, Rests, Finishes}
-use Rattle.settling.proofs.StageLaws.{roomy-first, staged-then, staged-room, staged-none, staged-as, staged-go, roomy-as}
+use Rattle.telling.proofs.StageLaws.{roomy-first, staged-then, staged-room, staged-none, staged-as, staged-go, roomy-as}
 use Rattle.arrival.proofs.TakeLaws.{take-falls, takes-now}
 use Rattle.arrival.proofs.Untraded.{far-off}
 use Rattle.arrival.proofs.PostingLaws.{unminded}

@@ -17,18 +17,18 @@ use Rattle.book.specs.declared.Book.{Book}
 use Rattle.book.specs.Shape.{entriesOf}
 use Rattle.book.specs.Look.{contra}
 use Rattle.book.proofs.ShapeLaws.{length-entries, book-of-entries}
-use Rattle.sound.proofs.Facts.{Sound}
-use Rattle.settling.specs.Stage.{Roomy, Staged}
-use Rattle.arrival.specs.declared.Terms.{Terms}
+use Rattle.soundness_theory.proofs.Facts.{Sound}
+use Rattle.telling.specs.Stage.{Roomy, Staged}
+use Rattle.terms.specs.declared.Terms.{Terms}
 use Rattle.arrival.specs.declared.Facing.{Facing}
-use Rattle.arrival.specs.Terms.{marketOf}
+use Rattle.terms.specs.Terms.{marketOf}
 use Rattle.arrival.specs.Cancel.{Asks}
 use Rattle.arrival.specs.Take.{Taking, bound, taken, took}
 use Rattle.arrival.specs.Post.{stopFor}
 use Rattle.arrival.specs.Arrive.{rejectedBy, replaced, finished, entered, rejection}
 use Rattle.arrival.specs.Asks.{trades, Enters, Arrives, Goes, Takes, TakesOn, TookAs, takingOf, Finishes}
-use Rattle.settling.proofs.Settles.{sound-for}
-use Rattle.settling.proofs.StageLaws.{roomy-first, staged-list, staged-then, staged-room, staged-as, roomy-as}
+use Rattle.soundness_theory.proofs.MarketFacts.{sound-for}
+use Rattle.telling.proofs.StageLaws.{roomy-first, staged-list, staged-then, staged-room, staged-as, roomy-as}
 use Rattle.arrival.proofs.TakeLaws.{took-length}
 use Rattle.arrival.proofs.Untraded.{none-took, takes-minds}
 use Rattle.arrival.proofs.OwnSide.{still-contra, still-trades}

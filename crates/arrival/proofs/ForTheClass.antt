@@ -26,12 +26,11 @@ use Rattle.book.specs.Change.{post}
 use Rattle.book.specs.Look.{working, contra, quoteIn}
 use Rattle.book.proofs.OfferLaws.{Best, best-one}
 use Rattle.book.proofs.LookLaws.{Offered, contra-price-tells, quote-tells}
-use Rattle.sound.proofs.Facts.{AsItSlides, Clear, Sound}
-use Rattle.settling.specs.Tell.{rejected, rested, cancelled}
-use Rattle.settling.proofs.EaseRule.{MarketFacts}
-use Rattle.settling.proofs.Settles.{sound-for}
-use Rattle.arrival.specs.declared.Terms.{Terms}
-use Rattle.arrival.specs.Terms.{marketOf}
+use Rattle.soundness_theory.proofs.Facts.{AsItSlides, Clear, Sound}
+use Rattle.telling.specs.Tell.{rejected, rested, cancelled}
+use Rattle.soundness_theory.proofs.MarketFacts.{MarketFacts, sound-for}
+use Rattle.terms.specs.declared.Terms.{Terms}
+use Rattle.terms.specs.Terms.{marketOf}
 use Rattle.arrival.specs.Cancel.{cutQuote}
 use Rattle.arrival.specs.Take.{Taking, took}
 use Rattle.arrival.specs.Post.{pricesOf, resting, stopFor}

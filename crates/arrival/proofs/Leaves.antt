@@ -18,9 +18,9 @@ use Rattle.book.specs.declared.Entry.{Entry}
 use Rattle.book.specs.Entries.{quoteOf}
 use Rattle.book.specs.Look.{quoteIn}
 use Rattle.book.proofs.LookLaws.{quote-tells}
-use Rattle.sound.proofs.Facts.{Sound}
-use Rattle.sound.proofs.KeepLaws.{each-two}
-use Rattle.settling.specs.Tell.{cancelled}
+use Rattle.soundness_theory.proofs.Facts.{Sound}
+use Rattle.soundness_theory.proofs.KeepLaws.{each-two}
+use Rattle.telling.specs.Tell.{cancelled}
 use Rattle.arrival.specs.Cancel.{cut, cutQuote}
 use Rattle.arrival.proofs.CutLaws.{OfMaker, of-maker}
 

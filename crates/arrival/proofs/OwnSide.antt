@@ -23,11 +23,11 @@ use Rattle.book.specs.declared.Entry.{Entry}
 use Rattle.book.specs.Entries.{quote, quoteOf, display, against}
 use Rattle.book.specs.Look.{working, facing, nearest, contra, national, eligible, bestContra, hidden, hiddenWithin, quoteIn}
 use Rattle.book.proofs.LookLaws.{ContraTells, contra-tells, quote-tells}
-use Rattle.sound.proofs.Facts.{Sound}
-use Rattle.sound.proofs.FrontLaws.{cost-is}
-use Rattle.sound.proofs.KeepLaws.{here-facts}
-use Rattle.arrival.specs.declared.Terms.{Terms}
-use Rattle.arrival.specs.Terms.{marketOf}
+use Rattle.soundness_theory.proofs.Facts.{Sound}
+use Rattle.soundness_theory.proofs.FrontLaws.{cost-is}
+use Rattle.soundness_theory.proofs.KeepLaws.{here-facts}
+use Rattle.terms.specs.declared.Terms.{Terms}
+use Rattle.terms.specs.Terms.{marketOf}
 use Rattle.arrival.specs.Cancel.{cut, cutQuote}
 use Rattle.arrival.specs.Take.{Taking, bound, shownOnly, took}
 use Rattle.arrival.specs.Post.{stopFor}

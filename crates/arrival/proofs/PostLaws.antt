@@ -30,14 +30,14 @@ use Rattle.book.specs.declared.Pricing.{Pricing}
 use Rattle.book.specs.declared.Pricing.the-variants.{Fixed, Dark, Sliding}
 use Rattle.book.specs.Entries.{shownAs, display, displayed, against}
 use Rattle.book.specs.Look.{eligible, contra, hidden, hiddenWithin}
-use Rattle.sound.proofs.Facts.{PricedAs, EntryFacts, Clear, Sound}
-use Rattle.sound.proofs.FrontLaws.{given-contra}
-use Rattle.sound.proofs.KeepLaws.{here-facts, short-clear}
-use Rattle.settling.specs.Tell.{rested}
-use Rattle.settling.proofs.EaseRule.{MarketFacts}
-use Rattle.settling.proofs.Packs.{Packs}
-use Rattle.arrival.specs.declared.Terms.{Terms}
-use Rattle.arrival.specs.Terms.{marketOf}
+use Rattle.soundness_theory.proofs.Facts.{PricedAs, EntryFacts, Clear, Sound}
+use Rattle.soundness_theory.proofs.FrontLaws.{given-contra}
+use Rattle.soundness_theory.proofs.KeepLaws.{here-facts, short-clear}
+use Rattle.telling.specs.Tell.{rested}
+use Rattle.soundness_theory.proofs.MarketFacts.{MarketFacts}
+use Rattle.telling.proofs.PackLaws.{Packs}
+use Rattle.terms.specs.declared.Terms.{Terms}
+use Rattle.terms.specs.Terms.{marketOf}
 use Rattle.arrival.specs.Take.{bound, shownOnly}
 use Rattle.arrival.specs.Post.{pricesOf, pricingOf, resting, bars21, stopFor}
 use Rattle.arrival.proofs.TakeLaws.{Cleared}

@@ -12,8 +12,8 @@ use Rattle.lists.proofs.Bools.{cond-either}
 use Rattle.book.specs.declared.Entry.{Entry}
 use Rattle.book.specs.Entries.{quote}
 use Rattle.book.specs.Look.{national}
-use Rattle.arrival.specs.declared.Terms.{Terms}
-use Rattle.arrival.specs.Terms.{marketOf, guardOf}
+use Rattle.terms.specs.declared.Terms.{Terms}
+use Rattle.terms.specs.Terms.{marketOf, guardOf}
 use Rattle.arrival.specs.Take.{took}
 use Rattle.arrival.specs.Post.{pricesOf, bars21, stopFor}
 use Rattle.arrival.specs.Arrive.{noneTraded, stopsAtOnce, protectionFor, orElse, rejection}

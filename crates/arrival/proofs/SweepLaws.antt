@@ -13,7 +13,7 @@ use Rattle.lists.specs.Choose.{Found, nowhere, found}
 use Rattle.lists.specs.Run.{Step, stop, go, Complete, done, then, still}
 use Rattle.lists.proofs.TestLaws.{all-zip, all-at, all-of, all-without, count-le, count-without, none-count}
 use Rattle.lists.proofs.ChooseLaws.{Tells}
-use Rattle.lists.proofs.RunLaws.{Falls, few, run-stop, ran-complete, complete-stop, complete-keeps, never-goes, never-stops, same-step}
+use Rattle.lists.proofs.RunLaws.{Falls, few, run-stop, ran-complete, complete-stop, complete-keeps, never-goes, never-stops, same-step, complete-tells}
 use Rattle.packing.specs.declared.report.Report.{Report}
 use Rattle.packing.specs.declared.report.Report.the-variants.{Noted, Rejected, Traded, Rested, Repriced, Cancelled}
 use Rattle.packing.specs.Room.{AllPack}
@@ -21,13 +21,11 @@ use Rattle.packing.proofs.ReportLaws.{cancelled-packs}
 use Rattle.book.specs.declared.Entry.{Entry}
 use Rattle.book.specs.Entries.{quote}
 use Rattle.book.specs.Look.{lowest}
-use Rattle.book.proofs.LookLaws.{lowest-tells}
-use Rattle.sound.proofs.Facts.{EntryFacts, Sound}
-use Rattle.sound.proofs.KeepLaws.{here-facts, others, sound-without}
-use Rattle.settling.specs.Tell.{cancelled}
-use Rattle.settling.proofs.Shapes.{number, First}
-use Rattle.settling.proofs.Keeps.{complete-tells}
-use Rattle.settling.proofs.Packs.{Packs, all-pack}
+use Rattle.book.proofs.LookLaws.{lowest-tells, number, First}
+use Rattle.soundness_theory.proofs.Facts.{EntryFacts, Sound}
+use Rattle.soundness_theory.proofs.KeepLaws.{here-facts, others, sound-without}
+use Rattle.telling.specs.Tell.{cancelled}
+use Rattle.telling.proofs.PackLaws.{Packs, all-pack}
 use Rattle.arrival.specs.Cancel.{swept, sweepAt, nextSweep, sweep}
 use Rattle.arrival.proofs.Leaves.{Rests}
 

@@ -10,11 +10,10 @@ use Rattle.book.specs.declared.Book.{Book}
 use Rattle.book.specs.declared.Rank.the-variants as rank
 use Rattle.book.specs.Look.{rankOf, lowest}
 use Rattle.book.specs.Shape.{zeroEntry, entriesOf}
-use Rattle.book.proofs.LookLaws.{lowest-tells}
+use Rattle.book.proofs.LookLaws.{lowest-tells, number}
 use Rattle.book.proofs.RankLaws.{Ranked, rank-none, rank-at, ranked-place}
-use Rattle.settling.specs.Stage.{Staged}
-use Rattle.settling.proofs.Shapes.{number}
-use Rattle.settling.proofs.GoingLaws.{Looping, loop-start, loop-done, loop-free, loop-falls, loop-turn}
+use Rattle.telling.specs.Stage.{Staged}
+use Rattle.telling.proofs.GoingLaws.{Looping, loop-start, loop-done, loop-free, loop-falls, loop-turn}
 use Rattle.arrival.specs.Cancel.{swept, sweepAt, nextSweep, sweep, cutAt, Asks, Cuts}
 use Rattle.arrival.proofs.SweepLaws.{sweep-falls}
 

@@ -20,7 +20,7 @@ use Rattle.lists.specs.Choose.{Found, nowhere, found}
 use Rattle.lists.specs.Run.{stop, go, Complete, Ran, still, leading, ran}
 use Rattle.lists.proofs.Bools.{clash, and-left, and-right, cond-either}
 use Rattle.lists.proofs.PlaceLaws.{at-inside}
-use Rattle.lists.proofs.RunLaws.{Falls, few, run-stop, run-go, ran-complete, complete-stop, complete-keeps, never-goes, never-stops, same-step}
+use Rattle.lists.proofs.RunLaws.{Falls, few, run-stop, run-go, ran-complete, complete-stop, complete-keeps, never-goes, never-stops, same-step, complete-tells}
 use Rattle.packing.specs.declared.report.Report.{Report}
 use Rattle.packing.specs.Room.{AllPack}
 use Rattle.packing.proofs.ReportLaws.{traded-packs}
@@ -30,13 +30,12 @@ use Rattle.book.specs.Change.{hit}
 use Rattle.book.specs.Look.{eligible, bestContra}
 use Rattle.book.proofs.LookLaws.{BestContra, ContraTells, contra-tells}
 use Rattle.book.proofs.ChangeLaws.{length-hit}
-use Rattle.sound.proofs.Facts.{EntryFacts, Sound}
-use Rattle.sound.proofs.FrontLaws.{cost-is}
-use Rattle.sound.proofs.TradeLaws.{all-hit, hit-out}
-use Rattle.sound.proofs.KeepLaws.{here-facts, sound-hit}
-use Rattle.settling.specs.Tell.{traded}
-use Rattle.settling.proofs.Keeps.{complete-tells}
-use Rattle.settling.proofs.Packs.{Packs, all-pack}
+use Rattle.soundness_theory.proofs.Facts.{EntryFacts, Sound}
+use Rattle.soundness_theory.proofs.FrontLaws.{cost-is}
+use Rattle.soundness_theory.proofs.TradeLaws.{all-hit, hit-out}
+use Rattle.soundness_theory.proofs.KeepLaws.{here-facts, sound-hit}
+use Rattle.telling.specs.Tell.{traded}
+use Rattle.telling.proofs.PackLaws.{Packs, all-pack}
 use Rattle.arrival.specs.Take.{Taking, bound, shownOnly, tradeWith, takeAt, nextTake, chances, taken, took}
 use Rattle.arrival.specs.Arrive.{noneTraded}
 

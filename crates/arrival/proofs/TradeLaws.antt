@@ -17,14 +17,14 @@ use Rattle.book.specs.Shape.{zeroEntry, entriesOf, bookOf, WellFormed, Place}
 use Rattle.book.specs.Change.{hit}
 use Rattle.book.proofs.ShapeLaws.{length-entries, book-of-entries, holds}
 use Rattle.book.proofs.ChangeLaws.{hit-fits}
-use Rattle.settling.specs.Tell.{traded}
-use Rattle.settling.specs.Stage.{Roomy}
+use Rattle.telling.specs.Tell.{traded}
+use Rattle.telling.specs.Stage.{Roomy}
 use Rattle.book.specs.Look.{bestContra}
 use Rattle.arrival.specs.declared.take.Trade.{Trade}
 use Rattle.arrival.specs.Take.{Taking, shownOnly, nextTake, chances, taken}
 use Rattle.arrival.specs.Asks.{NextTrade, Takes, TookAs, takingOf}
 use Rattle.book.proofs.RankLaws.{Ranked}
-use Rattle.settling.proofs.GoingLaws.{Going, going-start, going-end, going-less, going-room, going-on}
+use Rattle.telling.proofs.GoingLaws.{Going, going-start, going-end, going-less, going-room, going-on}
 use Rattle.arrival.proofs.TakeLaws.{take-falls}
 
 module _ (cap : ℕ) (e : Entry) (t : Taking) where

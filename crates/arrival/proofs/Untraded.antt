@@ -20,8 +20,8 @@ use Rattle.book.specs.Entries.{against}
 use Rattle.book.specs.Look.{working, contra, bestContra}
 use Rattle.book.proofs.OfferLaws.{AsGood, positive}
 use Rattle.book.proofs.LookLaws.{ContraTells, contra-tells, Offered, contra-price-tells}
-use Rattle.sound.proofs.Facts.{Sound}
-use Rattle.sound.proofs.KeepLaws.{here-facts}
+use Rattle.soundness_theory.proofs.Facts.{Sound}
+use Rattle.soundness_theory.proofs.KeepLaws.{here-facts}
 use Rattle.arrival.specs.Take.{Taking, bound, shownOnly, offered, nextTake, took}
 use Rattle.arrival.specs.Arrive.{noneTraded}
 use Rattle.arrival.proofs.TakeLaws.{withinBound, take-run, took-either, takes-now}

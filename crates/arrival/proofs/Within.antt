@@ -11,9 +11,9 @@ use Rattle.prices.specs.Side.{meek, reaches, away}
 use Rattle.prices.specs.Aims.{upTo}
 use Rattle.lists.specs.Tests.{All}
 use Rattle.book.specs.declared.Entry.{Entry}
-use Rattle.settling.proofs.Within.{WithinAway, TradesWithin}
-use Rattle.arrival.specs.declared.Terms.{Terms}
-use Rattle.arrival.specs.Terms.{marketOf}
+use Rattle.telling.proofs.Within.{WithinAway, TradesWithin}
+use Rattle.terms.specs.declared.Terms.{Terms}
+use Rattle.terms.specs.Terms.{marketOf}
 use Rattle.arrival.specs.Take.{bound}
 use Rattle.arrival.specs.Arrive.{arrived}
 use Rattle.arrival.proofs.ArriveTells.{arrived-says}

@@ -13,9 +13,9 @@ use Rattle.book.specs.declared.Entry.{Entry}
 use Rattle.book.specs.Entries.{quote}
 use Rattle.book.specs.Change.{post}
 use Rattle.book.specs.Look.{national}
-use Rattle.settling.specs.Tell.{rejected, rested, cancelled}
-use Rattle.arrival.specs.declared.Terms.{Terms}
-use Rattle.arrival.specs.Terms.{marketOf, guardOf}
+use Rattle.telling.specs.Tell.{rejected, rested, cancelled}
+use Rattle.terms.specs.declared.Terms.{Terms}
+use Rattle.terms.specs.Terms.{marketOf, guardOf}
 use Rattle.arrival.specs.Cancel.{cutQuote}
 use Rattle.arrival.specs.Take.{Taking, took}
 use Rattle.arrival.specs.Post.{pricesOf, resting, stopFor}

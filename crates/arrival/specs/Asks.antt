@@ -9,7 +9,7 @@ use lib.ListN.{length}
 use Rattle.prices.specs.Step.{legal}
 use Rattle.prices.specs.Side.{away}
 use Rattle.lists.specs.Run.{Step, stop, go, Ran}
-use Rattle.settling.specs.Tell.{traded}
+use Rattle.telling.specs.Tell.{traded}
 use Rattle.book.specs.Change.{hit}
 use Rattle.packing.specs.declared.report.Report.{Report}
 use Rattle.packing.specs.Room.{written}
@@ -18,10 +18,11 @@ use Rattle.book.specs.declared.Book.{Book}
 use Rattle.book.specs.Shape.{entriesOf, bookOf, WellFormed}
 use Rattle.book.specs.Entries.{quote}
 use Rattle.book.specs.Look.{contra, national}
-use Rattle.sound.specs.Sound.{soundEntries}
-use Rattle.settling.specs.Stage.{soundMarket, Roomy}
-use Rattle.arrival.specs.declared.Terms.{Terms}
-use Rattle.arrival.specs.Terms.{marketOf}
+use Rattle.soundness_theory.specs.Sound.{soundEntries}
+use Rattle.soundness_theory.specs.SoundMarket.{soundMarket}
+use Rattle.telling.specs.Stage.{Roomy}
+use Rattle.terms.specs.declared.Terms.{Terms}
+use Rattle.terms.specs.Terms.{marketOf}
 use Rattle.arrival.specs.Take.{Taking, nextTake, took}
 use Rattle.arrival.specs.Post.{stopFor, Posts}
 use Rattle.arrival.specs.declared.take.Trade.{Trade}

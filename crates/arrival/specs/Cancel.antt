@@ -17,8 +17,8 @@ use Rattle.book.specs.declared.Rank.{Rank}
 use Rattle.book.specs.declared.Rank.the-variants.{At, Nowhere}
 use Rattle.book.specs.Shape.{zeroEntry, entriesOf, WellFormed, Place}
 use Rattle.book.specs.Look.{entryOf, quoteIn, lowest}
-use Rattle.settling.specs.Tell.{cancelled}
-use Rattle.settling.specs.Stage.{Roomy}
+use Rattle.telling.specs.Tell.{cancelled}
+use Rattle.telling.specs.Stage.{Roomy}
 
 -- what was found goes, for a reason; nothing happens where nothing was
 unfoldable pub cut : ℕ → List Entry → Found Entry → Ran (List Entry) Report

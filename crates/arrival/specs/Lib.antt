@@ -1,4 +1,3 @@
-pub mod Terms
 pub mod Cancel
 pub mod Take
 pub mod Post

@@ -15,8 +15,8 @@ use Rattle.book.specs.declared.Pricing.the-variants.{Fixed, Dark, Sliding}
 use Rattle.book.specs.declared.Book.{Book}
 use Rattle.book.specs.Shape.{entriesOf, WellFormed}
 use Rattle.book.specs.Look.{contra, hiddenWithin}
-use Rattle.arrival.specs.declared.Terms.{Terms}
-use Rattle.arrival.specs.Terms.{marketOf}
+use Rattle.terms.specs.declared.Terms.{Terms}
+use Rattle.terms.specs.Terms.{marketOf}
 
 -- "On arrival it takes the aims"; what does not slide displays (or not) and works at the limit
 abbrev pub pricesBefore : Terms → Entry → ℕ → Prices

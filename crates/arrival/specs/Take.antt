@@ -14,7 +14,7 @@ use Rattle.packing.specs.declared.report.Report.{Report}
 use Rattle.book.specs.declared.Entry.{Entry}
 use Rattle.book.specs.Change.{hit}
 use Rattle.book.specs.Look.{bestContra}
-use Rattle.settling.specs.Tell.{traded}
+use Rattle.telling.specs.Tell.{traded}
 
 -- what is left of the taker, and the entries that rest
 pub record Taking : Type 0 where

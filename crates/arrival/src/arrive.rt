@@ -1,9 +1,7 @@
 // Arrival of a quote or an order.
 use crate::Facing;
-use crate::Terms;
 use crate::cancel::cut_quote;
 use crate::cancel::cut_rank;
-use crate::post::market_of;
 use crate::post::prices_of;
 use crate::post::rest_of;
 use crate::post::stop_for;
@@ -18,36 +16,27 @@ use book::change::posted as post_entry;
 use book::entries::is_quote;
 use book::entries::kind_of;
 use book::find::find_quote;
-use prices::Guard;
 use prices::aims::is_minding;
 use prices::protect::protection_of;
-use settle::room::put;
-use settle::tell::tell_cancelled;
-use settle::tell::tell_rejected;
-use settle::tell::tell_rested;
+use telling::room::put;
+use telling::tell::tell_cancelled;
+use telling::tell::tell_rejected;
+use telling::tell::tell_rested;
+use terms::Terms;
+use terms::guard_of;
+use terms::market_of;
 ghost use mathlib.Core.Path.{_≡_};
 ghost use mathlib.Core.Bool.{not};
 ghost use Rattle.prices.specs.Protect.{Cents};
 ghost use Rattle.book.specs.Shape.{entriesOf, WellFormed};
 ghost use Rattle.book.specs.Look.{rankOf, quoteIn};
-ghost use Rattle.settling.specs.Stage.{Staged};
-ghost use Rattle.arrival.specs.Terms.{guardOf, marketOf};
+ghost use Rattle.telling.specs.Stage.{Staged};
+ghost use Rattle.terms.specs.Terms.{guardOf, marketOf};
 ghost use Rattle.arrival.specs.Take.{took};
 ghost use Rattle.arrival.specs.Post.{stopFor};
 ghost use Rattle.arrival.specs.Arrive.{protectionBefore, stopsAtOnce, rejection, rejectedBy, replaced, posted, remainder, cancelledRest, finished, entered, arrived};
 ghost use Rattle.arrival.specs.Cancel.{Asks};
 ghost use Rattle.arrival.specs.Asks.{trades, Enters, Decides, Arrives, Goes, Finishes, Rests, TakesOn, TookAs};
-
-pub fn guard_of(t: Terms) -> Guard
-    ensures { λ r. ⌜ r ≡ guardOf t ⌝ }
-{
-    Guard {
-        put: t.put,
-        exempt: t.exempt,
-        strike: t.strike,
-        underlying: t.underlying,
-    }
-}
 
 // Price protection before this NBO or NBB, for quotes only: the reason to reject, or 0.
 fn protection_for(t: Terms, e: Entry, national: u32) -> u32

@@ -3,10 +3,10 @@ use book::Book;
 use book::Rank;
 use book::change::removed;
 use book::find::find_quote;
-use settle::room::put;
-use settle::tell::tell_cancelled;
+use telling::room::put;
+use telling::tell::tell_cancelled;
 ghost use Rattle.book.specs.Shape.{entriesOf};
-ghost use Rattle.settling.specs.Stage.{Staged};
+ghost use Rattle.telling.specs.Stage.{Staged};
 ghost use Rattle.arrival.specs.Cancel.{cutAt, cutRank, cutQuote, Cuts, CutsRank, Asks};
 
 // The entry at a place goes.

@@ -11,17 +11,3 @@ pub struct Facing {
     pub contra: u32,
     pub national: u32,
 }
-
-// The numbers of a series.
-pub struct Terms {
-    pub put: bool,
-    pub exempt: bool,
-    pub m: u32,
-    pub k: u32,
-    pub strike: u32,
-    pub phase: u32,
-    pub bid: u32,
-    pub offer: u32,
-    pub underlying: u32,
-    pub given: u32,
-}

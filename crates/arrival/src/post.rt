@@ -1,32 +1,22 @@
 // Whether and how what is left of an arriving entry rests.
-use crate::Terms;
 use book::Book;
 use book::Entry;
 use book::Pricing;
 use book::entries::kind_of;
 use book::look::is_hidden_within;
-use prices::Market;
 use prices::Prices;
 use prices::aims::aims_of;
 use prices::aims::is_sliding;
 use prices::post::stop_of;
 use prices::side::away_of;
+use terms::Terms;
+use terms::market_of;
 ghost use mathlib.Core.Path.{_≡_};
 ghost use Rattle.prices.specs.Side.{away};
 ghost use Rattle.prices.specs.Aims.{Bounds};
 ghost use Rattle.book.specs.Shape.{entriesOf, WellFormed};
-ghost use Rattle.arrival.specs.Terms.{marketOf};
+ghost use Rattle.terms.specs.Terms.{marketOf};
 ghost use Rattle.arrival.specs.Post.{pricesBefore, pricingOf, resting, bars21, stopFor, Posts};
-
-pub fn market_of(t: Terms) -> Market
-    ensures { λ r. ⌜ r ≡ marketOf t ⌝ }
-{
-    Market {
-        m: t.m,
-        bid: t.bid,
-        offer: t.offer,
-    }
-}
 
 // The prices at which it would rest, before this contra price.
 pub fn prices_of(t: Terms, e: Entry, contra: u32) -> Prices

@@ -6,12 +6,12 @@ use book::Least;
 use book::Rank;
 use book::entries::is_quote;
 use book::look::lower_of;
+use book::look::number_key;
 use book::look::rank_of;
-use settle::ease::number_key;
 ghost use mathlib.Core.Path.{_≡_};
 ghost use Rattle.book.specs.Shape.{entriesOf, WellFormed};
 ghost use Rattle.book.specs.Look.{rankOf, lowest};
-ghost use Rattle.settling.specs.Stage.{Staged};
+ghost use Rattle.telling.specs.Stage.{Staged};
 ghost use Rattle.arrival.specs.Cancel.{swept, sweep, Asks};
 
 fn is_swept(phase: u32, e: Entry) -> bool

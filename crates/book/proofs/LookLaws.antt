@@ -161,6 +161,13 @@ module _ (l : List Entry) where
   unfolding lowest
   lowest-tells test = first-tells test (λ (e : Entry). e .number) l
 
+abbrev pub number : Entry → ℕ
+number e = e .number
+
+-- the first by entry number of those that pass
+abbrev pub First : (Entry → Bool) → List Entry → ℕ → Entry → Type 0
+First test l i e = Chosen test number l i e
+
 -- what a scan holds at its end is the rank it answers
 pub held-rank : {key : Entry → ℕ} {f : Found Entry} {k at : ℕ} → Held 1099511627776 key f k at → rankHeld (record { key = k; at = at }) ≡ rankOf f
 held-rank nothing = refl

@@ -4,6 +4,7 @@ use crate::Entry;
 use crate::entries::zero_entry;
 ghost use mathlib.Core.Path.{_≡_};
 ghost use mathlib.Core.List.{[]};
+ghost use Prim.Native.Nat.{min};
 ghost use lib.ListN.{set};
 ghost use Rattle.lists.specs.Places.{without, requeue};
 ghost use Rattle.book.specs.Shape.{entriesOf, bookOf, Place, TwoPlaces, Space};
@@ -88,4 +89,14 @@ pub fn traded(b: Book, i: usize, j: usize, quantity: u32) -> Book
     }
     let c = taken(b, i, quantity);
     taken(c, j, quantity)
+}
+
+// What two of these quantities have in common.
+pub fn lesser(a: u32, b: u32) -> u32
+    ensures { λ r. ⌜ r ≡ min a b ⌝ }
+{
+    if a < b {
+        return a;
+    }
+    b
 }

@@ -60,6 +60,17 @@ pub fn lower_of(held: Least, at: usize, key: u64) -> Least
     held
 }
 
+// By entry number: the key of an entry that passes, and one above all keys for the others.
+pub fn number_key(passes: bool, e: Entry) -> u64
+    ensures { λ r. ⌜ (r ≡ cond passes (e .number) 1099511627776) × (e .number < 1099511627776) ⌝ }
+{
+    let number = e.number as u64;
+    if passes {
+        return number;
+    }
+    1099511627776
+}
+
 fn contra_key(sell: bool, shown: bool, e: Entry) -> u64
     ensures { λ r. ⌜ (r ≡ keyed 1099511627776 (eligible sell shown) (priority sell) e) × (eligible sell shown e ≡ true → priority sell e < 1099511627776) ⌝ }
 {

@@ -14,13 +14,13 @@ use Rattle.book.specs.declared.Entry.{Entry}
 use Rattle.book.specs.declared.Book.{Book}
 use Rattle.book.specs.Shape.{entriesOf, WellFormed}
 use Rattle.book.proofs.ShapeLaws.{book-of-entries}
-use Rattle.settling.specs.Stage.{Staged, Put}
-use Rattle.settle.specs.Turns.{Settleable}
-use Rattle.arrival.specs.declared.Terms.{Terms}
-use Rattle.arrival.specs.Terms.{marketOf}
+use Rattle.telling.specs.Stage.{Staged, Put}
+use Rattle.settling.specs.Turns.{Settleable}
+use Rattle.terms.specs.declared.Terms.{Terms}
+use Rattle.terms.specs.Terms.{marketOf}
 use Rattle.arrival.specs.Arrive.{told, blocks}
-use Rattle.settling.proofs.StageLaws.{roomy-as}
-use Rattle.checking.specs.declared.Check.{Check}
+use Rattle.telling.proofs.StageLaws.{roomy-as}
+use Rattle.soundness.specs.declared.Check.{Check}
 use Rattle.series.specs.declared.Series.{Series}
 use Rattle.handler.specs.declared.Ask.{Ask}
 use Rattle.handler.specs.declared.Answer.{Answer}

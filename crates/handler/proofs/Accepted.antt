@@ -20,15 +20,16 @@ use Rattle.book.specs.declared.Entry.{Entry}
 use Rattle.book.specs.Entries.{quote}
 use Rattle.book.specs.Shape.{entriesOf}
 use Rattle.book.specs.Look.{entryOf}
-use Rattle.sound.specs.Sound.{soundEntries}
-use Rattle.sound.proofs.Facts.{Sound}
-use Rattle.sound.proofs.Decides.{is-sound, sound-is}
-use Rattle.settling.specs.Stage.{Roomy, SoundFor}
-use Rattle.settling.specs.Settle.{settled}
-use Rattle.settling.proofs.Packs.{pack-append}
-use Rattle.settling.proofs.Settles.{settles, settles-few}
-use Rattle.arrival.specs.declared.Terms.{Terms}
-use Rattle.arrival.specs.Terms.{marketOf}
+use Rattle.soundness_theory.specs.Sound.{soundEntries}
+use Rattle.soundness_theory.proofs.Facts.{Sound}
+use Rattle.soundness_theory.proofs.SoundFacts.{is-sound, sound-is}
+use Rattle.telling.specs.Stage.{Roomy}
+use Rattle.soundness_theory.specs.SoundMarket.{SoundFor}
+use Rattle.settling_theory.specs.Settle.{settled}
+use Rattle.telling.proofs.PackLaws.{pack-append}
+use Rattle.settling_theory.proofs.Settles.{settles, settles-few}
+use Rattle.terms.specs.declared.Terms.{Terms}
+use Rattle.terms.specs.Terms.{marketOf}
 use Rattle.arrival.specs.Cancel.{swept, cancelEntry, cancelQuote, sweep}
 use Rattle.arrival.specs.Arrive.{told, arrived}
 use Rattle.arrival.proofs.ArriveKeeps.{arrives, own-few}

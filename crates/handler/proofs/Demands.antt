@@ -24,9 +24,9 @@ use Rattle.packing.proofs.RoomLaws.{written-parts, reports-read-back}
 use Rattle.book.specs.declared.Entry.{Entry}
 use Rattle.book.specs.Shape.{entriesOf}
 use Rattle.book.proofs.ShapeLaws.{entries-of-book}
-use Rattle.settling.specs.Settle.{easing, stirring, nextEase, nextStir, eased, stirred, settled}
-use Rattle.settling.proofs.Settles.{Settled, settles}
-use Rattle.arrival.specs.Terms.{marketOf}
+use Rattle.settling_theory.specs.Settle.{easing, stirring, nextEase, nextStir, eased, stirred, settled}
+use Rattle.settling_theory.proofs.Settles.{Settled, settles}
+use Rattle.terms.specs.Terms.{marketOf}
 use Rattle.series.specs.declared.Series.{Series}
 use Rattle.series.specs.Series.{soundSeries}
 use Rattle.handler.specs.declared.Ask.{Ask}

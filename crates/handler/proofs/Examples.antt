@@ -25,8 +25,8 @@ use Rattle.prices.specs.Ease.{easedTo, eases}
 use Rattle.book.specs.Shape.{entriesOf, bookOf}
 use Rattle.book.specs.Change.{hit, hitBoth}
 use Rattle.book.specs.Look.{cost, priority, bestContra, nearest, hiddenWithin, quoteIn, lowest}
-use Rattle.sound.specs.Sound.{pricedAs, soundEntry, soundPair, soundEntries, soundBook}
-use Rattle.settling.specs.Settle.{nextEase, easings, nextStir, stirrings, eased, stirred, settled}
+use Rattle.soundness_theory.specs.Sound.{pricedAs, soundEntry, soundPair, soundEntries, soundBook}
+use Rattle.settling_theory.specs.Settle.{nextEase, easings, nextStir, stirrings, eased, stirred, settled}
 use Rattle.arrival.specs.Cancel.{cut}
 use Rattle.arrival.specs.Take.{nextTake, chances, taken, took}
 use Rattle.arrival.specs.Post.{stopFor}
@@ -41,7 +41,7 @@ use Rattle.packing.specs.Room.{readBack}
 use Rattle.book.specs.declared.Entry.{Entry}
 use Rattle.book.specs.declared.Pricing.{Pricing}
 use Rattle.book.specs.declared.Pricing.the-variants.{Fixed, Dark, Sliding}
-use Rattle.arrival.specs.declared.Terms.{Terms}
+use Rattle.terms.specs.declared.Terms.{Terms}
 use Rattle.series.specs.declared.Series.{Series}
 use Rattle.handler.specs.Asked.{askOf}
 use Rattle.handler.specs.Handle.{Handled, handled}

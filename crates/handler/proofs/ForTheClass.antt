@@ -24,17 +24,17 @@ use Rattle.book.specs.declared.Entry.{Entry}
 use Rattle.book.specs.Entries.{display, lessened}
 use Rattle.book.specs.Shape.{entriesOf}
 use Rattle.book.specs.Look.{entryOf, quoteIn}
-use Rattle.sound.proofs.Facts.{Sound}
-use Rattle.sound.proofs.Decides.{is-sound}
-use Rattle.sound.proofs.KeepLaws.{here-facts}
-use Rattle.settling.specs.Tell.{cancelled, takerOf}
-use Rattle.settling.specs.Settle.{settled}
-use Rattle.settling.proofs.Keeps.{Stems, stems-start, stems-lessened, stems-through}
-use Rattle.settling.proofs.Takers.{one-number, Minding, minding-all}
-use Rattle.settling.proofs.Within.{TradesWithin}
-use Rattle.settling.proofs.Settles.{settles}
-use Rattle.arrival.specs.declared.Terms.{Terms}
-use Rattle.arrival.specs.Terms.{marketOf}
+use Rattle.soundness_theory.proofs.Facts.{Sound}
+use Rattle.soundness_theory.proofs.SoundFacts.{is-sound}
+use Rattle.soundness_theory.proofs.KeepLaws.{here-facts}
+use Rattle.telling.specs.Tell.{cancelled, takerOf}
+use Rattle.settling_theory.specs.Settle.{settled}
+use Rattle.settling_theory.proofs.Keeps.{Stems, stems-start, stems-lessened, stems-through}
+use Rattle.settling_theory.proofs.Takers.{one-number, Minding, minding-all}
+use Rattle.telling.proofs.Within.{TradesWithin}
+use Rattle.settling_theory.proofs.Settles.{settles}
+use Rattle.terms.specs.declared.Terms.{Terms}
+use Rattle.terms.specs.Terms.{marketOf}
 use Rattle.arrival.specs.Cancel.{cancelEntry, cancelQuote, sweep}
 use Rattle.arrival.specs.Post.{resting}
 use Rattle.arrival.specs.Arrive.{told, arrived}

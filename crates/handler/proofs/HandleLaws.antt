@@ -11,18 +11,18 @@ use borrow.Author.Tests.{leb-false, le-leb, lt-leb, ne-eqb}
 use Rattle.lists.specs.Choose.{Found, nowhere, found}
 use Rattle.lists.specs.Tests.{any}
 use Rattle.lists.proofs.Bools.{clash}
-use Rattle.checking.specs.declared.Check.{Check}
-use Rattle.checking.specs.Summary.{seat, isFound, Summary}
-use Rattle.checking.proofs.SummaryLaws.{any-quote, seat-tells, faced-contra, shown-national}
+use Rattle.soundness.specs.declared.Check.{Check}
+use Rattle.soundness.specs.Summary.{seat, isFound, Summary}
+use Rattle.soundness.proofs.SummaryLaws.{any-quote, seat-tells, faced-contra, shown-national}
 use Rattle.book.specs.declared.Entry.{Entry}
 use Rattle.book.specs.Shape.{entriesOf}
 use Rattle.prices.specs.Side.{away}
 use Rattle.prices.specs.Protect.{bars24, bars25, bars26, firstBar, protection}
 use Rattle.book.specs.Entries.{quote, quoteOf}
 use Rattle.book.specs.Look.{rankOf, quoteIn, national}
-use Rattle.sound.specs.Sound.{between}
-use Rattle.arrival.specs.declared.Terms.{Terms}
-use Rattle.arrival.specs.Terms.{marketOf, guardOf}
+use Rattle.soundness_theory.specs.Sound.{between}
+use Rattle.terms.specs.declared.Terms.{Terms}
+use Rattle.terms.specs.Terms.{marketOf, guardOf}
 use Rattle.arrival.specs.Arrive.{protectionFor, stopsAtOnce, orElse, rejection, bothQuotes, blocks}
 use Rattle.arrival.proofs.ReasonLaws.{at-once-among}
 use Rattle.arrival.specs.declared.Facing.{Facing}

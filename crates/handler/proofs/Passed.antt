@@ -22,8 +22,8 @@ use Rattle.book.specs.Entries.{quoteOf}
 use Rattle.book.specs.Shape.{entriesOf}
 use Rattle.book.specs.Look.{quoteIn}
 use Rattle.book.proofs.LookLaws.{quote-tells}
-use Rattle.sound.specs.Sound.{between}
-use Rattle.sound.proofs.Decides.{between-both}
+use Rattle.soundness_theory.specs.Sound.{between}
+use Rattle.soundness_theory.proofs.SoundFacts.{between-both}
 use Rattle.arrival.specs.Cancel.{cut, cutQuote}
 use Rattle.arrival.specs.Arrive.{replaced}
 use Rattle.arrival.specs.Asks.{Arriving}

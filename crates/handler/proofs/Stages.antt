@@ -13,13 +13,14 @@ use Rattle.packing.specs.declared.report.Report.the-variants.{Noted}
 use Rattle.book.specs.declared.Entry.{Entry}
 use Rattle.book.specs.declared.Book.{Book}
 use Rattle.book.specs.Shape.{entriesOf}
-use Rattle.settling.specs.Stage.{Roomy, Staged, SoundFor}
-use Rattle.settling.specs.Settle.{settled}
-use Rattle.arrival.specs.declared.Terms.{Terms}
-use Rattle.arrival.specs.Terms.{marketOf}
+use Rattle.telling.specs.Stage.{Roomy, Staged}
+use Rattle.soundness_theory.specs.SoundMarket.{SoundFor}
+use Rattle.settling_theory.specs.Settle.{settled}
+use Rattle.terms.specs.declared.Terms.{Terms}
+use Rattle.terms.specs.Terms.{marketOf}
 use Rattle.arrival.specs.Cancel.{cancelEntry, cancelQuote, sweep}
 use Rattle.arrival.specs.Arrive.{told, arrived}
-use Rattle.settling.proofs.StageLaws.{staged-list, staged-then, staged-room}
+use Rattle.telling.proofs.StageLaws.{staged-list, staged-then, staged-room}
 use Rattle.series.specs.declared.Series.{Series}
 use Rattle.handler.specs.declared.Ask.{Ask}
 use Rattle.handler.specs.Asked.{enters}

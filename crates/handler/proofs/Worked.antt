@@ -23,8 +23,8 @@ use Rattle.prices.specs.Ease.{easedTo, eases}
 use Rattle.book.specs.Shape.{entriesOf, bookOf}
 use Rattle.book.specs.Change.{hit, hitBoth}
 use Rattle.book.specs.Look.{cost, priority, bestContra, nearest, hiddenWithin, quoteIn, lowest}
-use Rattle.sound.specs.Sound.{pricedAs, soundEntry, soundPair, soundEntries, soundBook}
-use Rattle.settling.specs.Settle.{stirs, nextEase, easings, nextStir, stirrings, eased, stirred, settled, stirring}
+use Rattle.soundness_theory.specs.Sound.{pricedAs, soundEntry, soundPair, soundEntries, soundBook}
+use Rattle.settling_theory.specs.Settle.{stirs, nextEase, easings, nextStir, stirrings, eased, stirred, settled, stirring}
 use Rattle.arrival.specs.Cancel.{cut}
 use Rattle.arrival.specs.Take.{nextTake, chances, taken, took}
 use Rattle.arrival.specs.Post.{stopFor}
@@ -37,7 +37,7 @@ use Rattle.packing.specs.declared.message.Event.the-variants.{Away}
 use Rattle.packing.specs.declared.report.Report.the-variants.{Noted, Repriced}
 use Rattle.book.specs.declared.Entry.{Entry}
 use Rattle.book.specs.declared.Pricing.the-variants.{Sliding}
-use Rattle.arrival.specs.declared.Terms.{Terms}
+use Rattle.terms.specs.declared.Terms.{Terms}
 use Rattle.series.specs.declared.Series.{Series}
 use Rattle.handler.specs.Asked.{askOf}
 

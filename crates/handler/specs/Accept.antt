@@ -11,9 +11,9 @@ use Rattle.packing.specs.declared.report.Report.the-variants.{Noted}
 use Rattle.book.specs.declared.Entry.{Entry}
 use Rattle.book.specs.declared.Pricing.the-variants.{Fixed}
 use Rattle.book.specs.Shape.{entriesOf, bookOf}
-use Rattle.settling.specs.Settle.{settled}
-use Rattle.arrival.specs.declared.Terms.{Terms}
-use Rattle.arrival.specs.Terms.{marketOf}
+use Rattle.settling_theory.specs.Settle.{settled}
+use Rattle.terms.specs.declared.Terms.{Terms}
+use Rattle.terms.specs.Terms.{marketOf}
 use Rattle.arrival.specs.Cancel.{cancelEntry, cancelQuote, sweep}
 use Rattle.arrival.specs.Arrive.{told, arrived, blocks}
 use Rattle.series.specs.declared.Series.{Series}

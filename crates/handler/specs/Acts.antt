@@ -11,12 +11,13 @@ use Rattle.prices.specs.Side.{away, nearer}
 use Rattle.book.specs.declared.Entry.{Entry}
 use Rattle.book.specs.declared.Book.{Book}
 use Rattle.book.specs.Shape.{entriesOf, WellFormed}
-use Rattle.settling.specs.Stage.{Roomy, SoundFor}
-use Rattle.checking.specs.declared.Check.{Check}
-use Rattle.checking.specs.Summary.{Summary, faced, facedShown}
-use Rattle.arrival.specs.declared.Terms.{Terms}
+use Rattle.telling.specs.Stage.{Roomy}
+use Rattle.soundness_theory.specs.SoundMarket.{SoundFor}
+use Rattle.soundness.specs.declared.Check.{Check}
+use Rattle.soundness.specs.Summary.{Summary, faced, facedShown}
+use Rattle.terms.specs.declared.Terms.{Terms}
 use Rattle.arrival.specs.declared.Facing.{Facing}
-use Rattle.arrival.specs.Terms.{marketOf}
+use Rattle.terms.specs.Terms.{marketOf}
 use Rattle.arrival.specs.Arrive.{blocks}
 use Rattle.series.specs.declared.Series.{Series}
 use Rattle.series.specs.Series.{soundSeries}

@@ -14,7 +14,7 @@ use Rattle.book.specs.declared.Rank.the-variants.{At, Nowhere}
 use Rattle.book.specs.Entries.{quoteOf}
 use Rattle.book.specs.Shape.{entriesOf}
 use Rattle.book.specs.Look.{entryOf, quoteIn}
-use Rattle.sound.specs.Sound.{between}
+use Rattle.soundness_theory.specs.Sound.{between}
 use Rattle.series.specs.declared.Series.{Series}
 use Rattle.handler.specs.declared.Ask.{Ask}
 use Rattle.handler.specs.Asked.{enters, quotes}

@@ -3,18 +3,18 @@ use crate::Ask;
 use book::Book;
 use book::Rank;
 use book::find::find_entry;
-use checking::Check;
-use checking::figures::has_quote;
 use prices::step::is_given;
 use prices::step::is_legal;
 use series::Series;
-use series::soundness::is_between;
+use series::sound::is_between;
+use soundness::Check;
+use soundness::figures::has_quote;
 ghost use mathlib.Core.Path.{_≡_};
 ghost use mathlib.Core.Bool.{true, false};
 ghost use lib.ListN.{length};
 ghost use Rattle.prices.specs.Step.{mpv};
 ghost use Rattle.book.specs.Shape.{entriesOf, WellFormed};
-ghost use Rattle.checking.specs.Summary.{Summary};
+ghost use Rattle.soundness.specs.Summary.{Summary};
 ghost use Rattle.handler.specs.Refuse.{makersOnly, badParty, badPrice, badQuantity, notOpen, isBlocked, isFull, isSpent, isMissing, goneAt, refusalOf};
 
 fn is_makers_only(a: Ask) -> bool

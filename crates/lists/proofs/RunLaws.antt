@@ -6,6 +6,7 @@ use mathlib.Core.Path.{_≡_, refl, sym, subst, ap, _∙_}
 use mathlib.Core.List.{List}
 use native.Mathlib.Omega.{arith}
 use lib.ListN.{length}
+use Rattle.lists.specs.Tests.{All}
 use Rattle.lists.specs.Run.{Step, stop, go, Complete, done, then, Ran, still, leading, runFor, ran}
 
 -- a step is done, or it goes on in one way
@@ -118,3 +119,10 @@ module _ {S R : Type 0} (step : S → Step S R) (measure : S → ℕ) (Ok : S �
   run-go s r t ok e =
       let z = complete-one (ran-complete step measure Ok f s ok) (then e (ran-complete step measure Ok f t (f .kept s r t ok e))) in
       λ i. record { final = z .1 i; records = z .0 i }
+
+-- each record of a complete run has what a step's record has
+pub complete-tells : {S R : Type 0} {step : S → Step S R} {s t : S} {rs : List R} (Ok : S → Type 0) (P : R → Type 0)
+    → ((s : S) (r : R) (t : S) → Ok s → step s ≡ go r t → Ok t) → ((s : S) (r : R) (t : S) → Ok s → step s ≡ go r t → P r)
+    → Ok s → Complete step s rs t → All P rs
+complete-tells Ok P kept tells ok (done e) = tt
+complete-tells Ok P kept tells ok (then {s = s} {t = t} {r = r} e c) = (tells s r t ok e, complete-tells Ok P kept tells (kept s r t ok e) c)

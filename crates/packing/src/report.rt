@@ -5,8 +5,7 @@ ghost use lib.Dec.{leb};
 ghost use lib.ListN.{length, drop, getD, replicate};
 ghost use mathlib.Core.Bool.{cond};
 ghost use Rattle.packing.specs.Codec.{lookUp, fieldsIn, bytesOf, thingOf, unpackOf, packOf, answerOf};
-ghost use Rattle.packing.specs.Report.{reports, fieldsOf, codeOf, kindsOf, claimedBy, unpacked, packed, saidBy};
-ghost use Rattle.packing.specs.Report.{row as Report·row};
+ghost use Rattle.packing.specs.Report.{reports, fieldsOf, codeOf, kindsOf, claimedBy, unpacked, packed, saidBy, row as Report·row};
 
 // What happened to an entry: one case for each kind, in the order of the kinds' numbers 1 to 6.
 pub enum Report {

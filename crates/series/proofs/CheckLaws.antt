@@ -5,9 +5,9 @@ use mathlib.Core.Bool.{Bool, true, false, _&&_}
 use Rattle.lists.proofs.Bools.{clash}
 use Rattle.book.specs.Shape.{entriesOf}
 use Rattle.book.proofs.ShapeLaws.{length-entries}
-use Rattle.sound.specs.Sound.{soundBook}
-use Rattle.checking.specs.declared.Check.{Check}
-use Rattle.checking.specs.Summary.{Checked, unsound}
+use Rattle.soundness_theory.specs.Sound.{soundBook}
+use Rattle.soundness.specs.declared.Check.{Check}
+use Rattle.soundness.specs.Summary.{Checked, unsound}
 use Rattle.series.specs.declared.Series.{Series}
 use Rattle.series.specs.Series.{soundTerms, soundPhase, soundSeries}
 use Rattle.series.specs.Checks.{phaseWith, Tested}

@@ -1,5 +1,5 @@
 pub mod TermsLaws
-pub mod Decides
+pub mod SoundSeriesDecides
 pub mod SeriesFacts
 pub mod SetupSound
 pub mod CheckLaws

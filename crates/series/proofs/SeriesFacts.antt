@@ -16,15 +16,15 @@ use Rattle.book.specs.declared.Entry.{Entry}
 use Rattle.book.specs.declared.Book.{Book}
 use Rattle.book.specs.Shape.{zeroEntry, entriesOf, bookOf}
 use Rattle.book.proofs.ShapeLaws.{entries-of-book}
-use Rattle.sound.specs.Sound.{soundEntries, unusedEntry, soundBook}
-use Rattle.settling.specs.Stage.{soundMarket}
-use Rattle.arrival.specs.declared.Terms.{Terms}
-use Rattle.arrival.specs.Terms.{marketOf}
+use Rattle.soundness_theory.specs.Sound.{soundEntries, unusedEntry, soundBook}
+use Rattle.soundness_theory.specs.SoundMarket.{soundMarket}
+use Rattle.terms.specs.declared.Terms.{Terms}
+use Rattle.terms.specs.Terms.{marketOf}
 use Rattle.series.specs.declared.Series.{Series}
 use Rattle.series.specs.Series.{soundSeries}
 use Rattle.series.specs.SoundSeries.{LegalTerms, SoundPhase, SoundSeries}
 use Rattle.series.proofs.TermsLaws.{step-mpv, price-given, facts-terms, facts-phase}
-use Rattle.series.proofs.Decides.{passes, passed, sound-series-decides}
+use Rattle.series.proofs.SoundSeriesDecides.{passes, passed, sound-series-decides}
 
 -- ---- the book ----
 

@@ -20,12 +20,12 @@ use Rattle.packing.specs.declared.setup.Setup.{Setup}
 use Rattle.packing.specs.Codec.{fieldsIn, checked, thingOf, unpackOf}
 use Rattle.packing.proofs.CodecLaws.{onlyIf-some}
 use Rattle.packing.specs.Setup.{codeOf, legal, setups}
-use Rattle.sound.specs.Sound.{between, soundEntries}
-use Rattle.sound.proofs.Decides.{between-both}
+use Rattle.soundness_theory.specs.Sound.{between, soundEntries}
+use Rattle.soundness_theory.proofs.SoundFacts.{between-both}
 use Rattle.series.specs.Series.{newSeries, noSeries, opened, soundTerms, soundSeries}
 use Rattle.series.specs.SoundSeries.{SoundSeries}
 use Rattle.series.proofs.TermsLaws.{mpv-step}
-use Rattle.series.proofs.Decides.{sound-series-decides}
+use Rattle.series.proofs.SoundSeriesDecides.{sound-series-decides}
 use Rattle.series.proofs.SeriesFacts.{facts-series}
 
 -- "Setup of other length or values is refused": what unpacks has legal values

@@ -17,10 +17,10 @@ use Rattle.lists.proofs.PlaceLaws.{length-none}
 use Rattle.lists.proofs.TestLaws.{any-false, false-any}
 use Rattle.book.specs.declared.Entry.{Entry}
 use Rattle.book.specs.Entries.{quote}
-use Rattle.sound.specs.Sound.{between}
-use Rattle.sound.proofs.Decides.{between-both, both-between}
-use Rattle.checking.proofs.DecideLaws.{legal-price, price-legal}
-use Rattle.arrival.specs.declared.Terms.{Terms}
+use Rattle.soundness_theory.specs.Sound.{between}
+use Rattle.soundness_theory.proofs.SoundFacts.{between-both, both-between}
+use Rattle.soundness.proofs.DecideLaws.{legal-price, price-legal}
+use Rattle.terms.specs.declared.Terms.{Terms}
 use Rattle.series.specs.Series.{soundTerms, soundPhase}
 use Rattle.series.specs.SoundSeries.{NoneOrLegal, LegalTerms, SoundPhase}
 

@@ -5,8 +5,8 @@ use Prim.Native.Nat.{ℕ}
 use mathlib.Core.Path.{_≡_}
 use mathlib.Core.Bool.{Bool, true, false, cond, not}
 use lib.Dec.{eqb}
-use Rattle.checking.specs.declared.Check.{Check}
-use Rattle.checking.specs.Summary.{Checked, unsound}
+use Rattle.soundness.specs.declared.Check.{Check}
+use Rattle.soundness.specs.Summary.{Checked, unsound}
 use Rattle.series.specs.declared.Series.{Series}
 use Rattle.series.specs.Series.{soundSeries}
 

@@ -13,8 +13,8 @@ use Rattle.packing.specs.declared.setup.Setup.{Setup}
 use Rattle.book.specs.declared.Entry.{Entry}
 use Rattle.book.specs.Entries.{quote}
 use Rattle.book.specs.Shape.{entriesOf, bookOf}
-use Rattle.sound.specs.Sound.{between, soundBook}
-use Rattle.arrival.specs.declared.Terms.{Terms}
+use Rattle.soundness_theory.specs.Sound.{between, soundBook}
+use Rattle.terms.specs.declared.Terms.{Terms}
 use Rattle.series.specs.declared.Series.{Series}
 use Rattle.series.specs.declared.Made.{Made}
 

@@ -10,8 +10,8 @@ use Rattle.lists.specs.Tests.{All}
 use Rattle.book.specs.declared.Entry.{Entry}
 use Rattle.book.specs.Entries.{quote}
 use Rattle.book.specs.Shape.{entriesOf}
-use Rattle.checking.specs.SoundBook.{LegalPrice, Each, EachTwo, Distinct, Numbered, LegalFigures, OneQuote, Uncrossed, SoundPrices, UnusedZero}
-use Rattle.arrival.specs.declared.Terms.{Terms}
+use Rattle.soundness.specs.SoundBook.{LegalPrice, Each, EachTwo, Distinct, Numbered, LegalFigures, OneQuote, Uncrossed, SoundPrices, UnusedZero}
+use Rattle.terms.specs.declared.Terms.{Terms}
 use Rattle.series.specs.declared.Series.{Series}
 
 -- "An away bid, away offer .. of 0 means none"

@@ -1,9 +1,9 @@
 // One option series: its numbers, which makers are blocked, and its book.
-use arrival::Terms;
 use book::Book;
+use terms::Terms;
 
 pub mod open;
-pub mod soundness;
+pub mod sound;
 
 pub struct Series {
     pub terms: Terms,

@@ -1,11 +1,11 @@
 // A series from its setup.
 use crate::Made;
 use crate::Series;
-use arrival::Terms;
 use book::change::empty;
 use packing::setup::Setup;
 use packing::setup::Unpacked;
 use packing::setup::unpack;
+use terms::Terms;
 ghost use mathlib.Core.Path.{_≡_};
 ghost use Rattle.packing.specs.Codec.{unpackOf};
 ghost use Rattle.packing.specs.Setup.{setups};

@@ -21,7 +21,7 @@ use Rattle.book.proofs.ShapeLaws.{book-well-formed}
 use Rattle.book.specs.Shape.{entriesOf, bookOf}
 use Rattle.series.specs.declared.Series.{Series}
 use Rattle.series.specs.Series.{soundSeries, newSeries}
-use Rattle.series.proofs.Decides.{sound-series-decides}
+use Rattle.series.proofs.SoundSeriesDecides.{sound-series-decides}
 use Rattle.series.proofs.SetupSound.{setup-sound}
 use Rattle.handler.specs.declared.Ask.{Ask}
 use Rattle.arrival.specs.Arrive.{blocks}
@@ -32,10 +32,10 @@ use Rattle.handler.proofs.Ways.{accepting, handled-accepted}
 use Rattle.handler.proofs.Passed.{accepts}
 use Rattle.handler.proofs.Accepted.{done-part, after-sound}
 use Rattle.handler.proofs.Refusals.{refusals-keep}
-use Rattle.state.specs.Header.{headers}
-use Rattle.state.specs.State.{headerOf, unpackSeries, packsSeries, seriesBytes, packSeries}
-use Rattle.state.proofs.RoundTrip.{series-pack, pack-series}
-use Rattle.state.proofs.SoundPacks.{sound-state}
+use Rattle.series_buffer.specs.Header.{headers}
+use Rattle.series_buffer.specs.State.{headerOf, unpackSeries, packsSeries, seriesBytes, packSeries}
+use Rattle.series_buffer.proofs.RoundTrip.{series-pack, pack-series}
+use Rattle.series_buffer.proofs.SoundPacks.{sound-state}
 use Rattle.server.specs.Serve.{SetUp, setUp, Served, unserved, holding, serveIn, serve}
 
 -- ---- refusals ----

@@ -17,16 +17,16 @@ use Rattle.book.specs.Shape.{bookOf}
 use Rattle.series.specs.declared.Series.{Series}
 use Rattle.series.specs.declared.Made.{Made}
 use Rattle.series.specs.Series.{newSeries, opened}
-use Rattle.series.proofs.Decides.{sound-series-decides}
+use Rattle.series.proofs.SoundSeriesDecides.{sound-series-decides}
 use Rattle.series.proofs.SetupSound.{setup-sound}
 use Rattle.handler.specs.declared.Answer.{Answer}
 use Rattle.handler.specs.Handle.{Handled, answered, handled}
 use Rattle.handler.proofs.Refusals.{Unchanged, refusals-keep}
-use Rattle.state.specs.declared.Unpacked.{Unpacked}
-use Rattle.state.specs.State.{unpackSeries, packsSeries, seriesBytes, packSeries, unpacked, isStored, bufferAfter}
-use Rattle.state.proofs.RoundTrip.{series-pack}
-use Rattle.state.proofs.StateLaws.{other-length}
-use Rattle.state.proofs.SoundPacks.{sound-packs}
+use Rattle.series_buffer.specs.declared.Unpacked.{Unpacked}
+use Rattle.series_buffer.specs.State.{unpackSeries, packsSeries, seriesBytes, packSeries, unpacked, isStored, bufferAfter}
+use Rattle.series_buffer.proofs.RoundTrip.{series-pack}
+use Rattle.series_buffer.proofs.StateLaws.{other-length}
+use Rattle.series_buffer.proofs.SoundPacks.{sound-packs}
 use Rattle.server.specs.Serve.{SetUp, setUp, served, unserved, holding, packedAgain, serveIn, serve}
 
 -- ---- what an unpacked series tells ----

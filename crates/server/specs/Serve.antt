@@ -11,7 +11,7 @@ use Rattle.packing.specs.Codec.{nothing}
 use Rattle.series.specs.declared.Series.{Series}
 use Rattle.series.specs.Series.{newSeries}
 use Rattle.handler.specs.Handle.{Handled, handled}
-use Rattle.state.specs.State.{unpackSeries, seriesBytes, packSeries}
+use Rattle.series_buffer.specs.State.{unpackSeries, seriesBytes, packSeries}
 
 -- the number answered, and what the lent buffers then hold
 pub record SetUp : Type 0 where

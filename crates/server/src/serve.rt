@@ -2,8 +2,8 @@
 use handler::handle::handle;
 use handler::handle::handle_at;
 use series::open::open_series;
-use state::whole::pack_series;
-use state::whole::unpack_series;
+use series_buffer::whole::pack_series;
+use series_buffer::whole::unpack_series;
 ghost use mathlib.Core.Path.{_≡_};
 ghost use Rattle.packing.specs.Codec.{unpackOf};
 ghost use Rattle.packing.specs.Setup.{setups};

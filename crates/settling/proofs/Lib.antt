@@ -1,11 +1,5 @@
-pub mod Shapes
-pub mod EaseRule
-pub mod StirRule
-pub mod Keeps
-pub mod Packs
-pub mod Takers
-pub mod Quiet
-pub mod Within
-pub mod Settles
-pub mod StageLaws
-pub mod GoingLaws
+pub mod RankLaws
+pub mod Rules
+pub mod Judging
+pub mod Turning
+pub mod Whole

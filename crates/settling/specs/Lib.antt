@@ -1,3 +1,1 @@
-pub mod Tell
-pub mod Stage
-pub mod Settle
+pub mod Turns

@@ -1,6 +1,6 @@
 use Rattle.book.specs.Shape.{entriesOf}
 use mathlib.Core.Path.{sym}
-use Rattle.settling.proofs.StageLaws.{staged-as}
+use Rattle.telling.proofs.StageLaws.{staged-as}
 use Rattle.arrival.proofs.EnterLaws.{arrived-enters, arrived-rejected}
 use Rattle.arrival.proofs.EnteredLaws.{arrive-rejects, arrive-enters}
 use borrow.Author.Needs.{needs}

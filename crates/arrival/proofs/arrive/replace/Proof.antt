@@ -7,7 +7,7 @@ use Rattle.lists.specs.Run.{Ran}
 use Rattle.arrival.specs.Cancel.{cutQuote}
 use Rattle.book.specs.Shape.{entriesOf}
 use mathlib.Core.Path.{sym, ap, _∙_}
-use Rattle.settling.proofs.StageLaws.{staged-none, staged-as, roomy-as}
+use Rattle.telling.proofs.StageLaws.{staged-none, staged-as, roomy-as}
 use Rattle.arrival.proofs.EnterLaws.{of-quote, of-order}
 use borrow.Author.Needs.{needs}
 use Rattle.arrival.proofs.arrive.replace.Statement.{statement}

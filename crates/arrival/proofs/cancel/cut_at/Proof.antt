@@ -1,5 +1,5 @@
-use Rattle.settling.proofs.StageLaws.{roomy-told, staged-go}
-use Rattle.settling.specs.Tell.{cancelled}
+use Rattle.telling.proofs.StageLaws.{roomy-told, staged-go}
+use Rattle.telling.specs.Tell.{cancelled}
 use Rattle.book.proofs.ChangeLaws.{without-fits}
 use Rattle.book.proofs.ShapeLaws.{entry-at}
 use Rattle.book.specs.Shape.{zeroEntry, entriesOf}

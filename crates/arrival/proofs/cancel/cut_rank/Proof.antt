@@ -1,4 +1,4 @@
-use Rattle.settling.proofs.StageLaws.{staged-none}
+use Rattle.telling.proofs.StageLaws.{staged-none}
 use borrow.Author.Needs.{needs}
 use Rattle.arrival.proofs.cancel.cut_rank.Statement.{statement}
 use Rattle.arrival.proofs.cancel.cut_rank.Tie as tie

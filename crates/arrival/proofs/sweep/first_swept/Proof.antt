@@ -1,8 +1,7 @@
 use Rattle.book.proofs.RankLaws.{key-is}
 use lib.ListN.{getD}
 use Rattle.arrival.specs.Cancel.{swept}
-use Rattle.settling.proofs.Shapes.{number}
-use Rattle.book.proofs.LookLaws.{lower-turn, held-rank}
+use Rattle.book.proofs.LookLaws.{number, lower-turn, held-rank}
 use Rattle.book.specs.Look.{lower, lowest}
 use Rattle.book.specs.Shape.{zeroEntry, entriesOf}
 use Rattle.lists.proofs.LoopLaws.{Lowering, lower-start, lower-done}

@@ -6,7 +6,7 @@ use Rattle.lists.specs.Run.{Ran}
 use mathlib.Core.List.{List}
 use Rattle.book.specs.declared.Entry.{Entry}
 use Rattle.packing.specs.declared.report.Report.{Report}
-use Rattle.settling.proofs.StageLaws.{roomy-as, staged-as}
+use Rattle.telling.proofs.StageLaws.{roomy-as, staged-as}
 use Rattle.handler.proofs.Stages.{own-enters, own-entry, own-quote, own-phase, own-noted}
 use Rattle.handler.proofs.AcceptLaws.{told-staged}
 use Rattle.handler.proofs.HandleLaws.{acts-accepted, acts-comer, acts-enters, any-party}

@@ -2,7 +2,7 @@ use Rattle.book.specs.Shape.{entriesOf}
 use Rattle.book.specs.Entries.{own}
 use Rattle.book.specs.Look.{entryOf}
 use Rattle.book.proofs.LookLaws.{entry-tells}
-use Rattle.settling.proofs.StageLaws.{staged-as}
+use Rattle.telling.proofs.StageLaws.{staged-as}
 use Rattle.arrival.proofs.CancelLaws.{cut-rank, rank-cuts}
 use borrow.Author.Needs.{needs}
 use Rattle.handler.proofs.handle.cancel_entry.Statement.{statement}

@@ -2,7 +2,7 @@ use Rattle.book.specs.Shape.{entriesOf}
 use mathlib.Core.List.{[], _∷_}
 use Rattle.packing.specs.declared.report.Report.the-variants.{Noted}
 use Rattle.arrival.specs.Cancel.{sweep}
-use Rattle.settling.proofs.StageLaws.{roomy-first, roomy-then, staged-then}
+use Rattle.telling.proofs.StageLaws.{roomy-first, roomy-then, staged-then}
 use Rattle.handler.proofs.AcceptLaws.{told-staged}
 use borrow.Author.Needs.{needs}
 use Rattle.handler.proofs.handle.note_phase.Statement.{statement}

@@ -1,10 +1,10 @@
 use borrow.Author.Tests.{eq-eqb, ne-eqb}
 use mathlib.Core.Path.{sym, ap, _∙_}
 use Rattle.book.specs.Shape.{entriesOf}
-use Rattle.settling.proofs.StageLaws.{staged-as, staged-none}
+use Rattle.telling.proofs.StageLaws.{staged-as, staged-none}
 use Rattle.handler.proofs.Stages.{settled-open, settled-shut}
 use Rattle.handler.proofs.AcceptLaws.{settle-open}
-use Rattle.settling.specs.Settle.{settled}
+use Rattle.settling_theory.specs.Settle.{settled}
 use Rattle.prices.specs.declared.Market.{Market}
 use borrow.Author.Needs.{needs}
 use Rattle.handler.proofs.handle.settle_if.Statement.{statement}

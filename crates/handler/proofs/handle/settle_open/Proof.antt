@@ -1,7 +1,7 @@
 use mathlib.Core.Path.{sym, _∙_}
-use Rattle.settling.proofs.Quiet.{quiet}
-use Rattle.settling.proofs.Settles.{sound-for}
-use Rattle.settling.proofs.StageLaws.{staged-as, staged-none}
+use Rattle.settling_theory.proofs.Quiet.{quiet}
+use Rattle.soundness_theory.proofs.MarketFacts.{sound-for}
+use Rattle.telling.proofs.StageLaws.{staged-as, staged-none}
 use borrow.Author.Needs.{needs}
 use Rattle.handler.proofs.handle.settle_open.Statement.{statement}
 use Rattle.handler.proofs.handle.settle_open.Tie as tie

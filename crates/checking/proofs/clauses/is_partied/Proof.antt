@@ -1,9 +1,0 @@
-use mathlib.Core.Path.{refl}
-use Rattle.checking.proofs.clauses.is_partied.Statement.{statement}
-use Rattle.checking.proofs.clauses.is_partied.Tie as tie
-
-returns : tie.Need-returns
-returns c = refl
-
-pub is-partied-spec : {M : Type 1} → statement M
-is-partied-spec = tie.close (tie.spec returns)

@@ -1,0 +1,9 @@
+pub mod Shapes
+pub mod EaseRule
+pub mod StirRule
+pub mod Keeps
+pub mod Packs
+pub mod Takers
+pub mod Quiet
+pub mod Within
+pub mod Settles

@@ -1,5 +1,0 @@
-pub mod Facts
-pub mod Decides
-pub mod FrontLaws
-pub mod TradeLaws
-pub mod KeepLaws

@@ -1,0 +1,128 @@
+-- The best prices, by maxima and minima, are those that each side faces (book's `contra` and `national`).
+-- Assumes nothing.
+use Prim.Native.Nat.{ℕ, _≤_, min, max}
+use mathlib.Core.Path.{_≡_, refl, sym, ap, _∙_}
+use mathlib.Core.Bool.{Bool, true, false, cond, Bool·beq}
+use mathlib.Core.List.{List, [], _∷_, _++_}
+use native.Mathlib.Omega.{arith}
+use borrow.Author.Tests.{ltb-true, ltb-false, lt-ltb, le-ltb, eqb-true, eqb-false, ne-eqb}
+use lib.Dec.{eqb, ltb}
+use Rattle.prices.specs.Side.{nearer, meek}
+use Rattle.lists.specs.Choose.{scan}
+use Rattle.book.specs.declared.Entry.{Entry}
+use Rattle.book.specs.Look.{nearest, facing}
+use Rattle.book.proofs.OfferLaws.{best-alone, best-nearer, best-one}
+use Rattle.book.proofs.LookLaws.{nearest-tells, nearest-offered}
+use Rattle.soundness.specs.Summary.{higher, lower, held, told, buysAt, sellsAt}
+use Rattle.soundness.proofs.PairLaws.{scan-snoc}
+
+-- one more entry, as the price that a side faces has it
+nearest-more : (price : Entry → ℕ) (s : Bool) (l : List Entry) (e : Entry) → nearest price s 0 (l ++ (e ∷ [])) ≡ facing price s (nearest price s 0 l) e
+unfolding nearest
+nearest-more price s l e = scan-snoc (λ (q : ℕ) (x : Entry). facing price s q x) 0 0 l e
+
+-- ---- the highest buy: a maximum, as 0 is below all prices ----
+
+higher-nearer : (p q : ℕ) → higher p q ≡ nearer true p q
+unfolding nearer meek
+higher-nearer p q = go (ltb p q) refl (eqb p 0) refl (eqb q 0) refl
+  where
+    go : (a : Bool) → ltb p q ≡ a → (b : Bool) → eqb p 0 ≡ b → (c : Bool) → eqb q 0 ≡ c → cond a q p ≡ cond b q (cond c p (max p q))
+    go true h true f c g = refl
+    go true h false f true g = absurd (omega (arith, ltb-true p q h, eqb-true q 0 g))
+    go true h false f false g = omega (arith, ltb-true p q h)
+    go false h true f c g = omega (arith, ltb-false p q h, eqb-true p 0 f)
+    go false h false f true g = refl
+    go false h false f false g = omega (arith, ltb-false p q h)
+
+pub highest-more : (price : Entry → ℕ) (l : List Entry) (e : Entry) (p : ℕ) → p ≡ nearest price true 0 l
+    → higher p (buysAt (e .sell) (price e)) ≡ nearest price true 0 (l ++ (e ∷ []))
+highest-more price l e p h = side (e .sell) ∙ ap (λ (q : ℕ). facing price true q e) h ∙ sym (nearest-more price true l e)
+  where
+    side : (s : Bool) → higher p (buysAt s (price e)) ≡ cond (Bool·beq s false) (nearer true p (price e)) p
+    side true = rw (le-ltb p 0 (omega arith))
+    side false = higher-nearer p (price e)
+
+-- ---- the lowest sell: a minimum, once none is held as a number above all prices ----
+
+pub held-some : (p : ℕ) → 1 ≤ p → held p ≡ p
+unfolding held
+held-some p h = rw (ne-eqb p 0 (λ e. omega arith))
+
+lower-nearer : (p q : ℕ) → p ≤ 100000 → q ≤ 100000 → lower (held p) (held q) ≡ held (nearer false p q)
+unfolding held nearer meek
+lower-nearer p q a b = go (eqb p 0) refl (eqb q 0) refl
+  where
+    both : (c : Bool) → ltb p q ≡ c → cond c p q ≡ min p q
+    both true h = omega (arith, ltb-true p q h)
+    both false h = omega (arith, ltb-false p q h)
+
+    go : (x : Bool) → eqb p 0 ≡ x → (y : Bool) → eqb q 0 ≡ y
+        → lower (cond x 1000000 p) (cond y 1000000 q) ≡ cond (eqb (cond x q (cond y p (min p q))) 0) 1000000 (cond x q (cond y p (min p q)))
+    go true f true g = rw g
+    go true f false g = rw (g, le-ltb 1000000 q (omega arith))
+    go false f true g = rw (f, lt-ltb p 1000000 (omega arith))
+    go false f false g =
+        let some : eqb (min p q) 0 ≡ false = ne-eqb (min p q) 0 (λ e. none e (eqb-false p 0 f) (eqb-false q 0 g)) in
+        rw some (both (ltb p q) refl)
+      where
+        none : min p q ≡ 0 → (p ≡ 0 → ⊥) → (q ≡ 0 → ⊥) → ⊥
+        none e u v = one (ltb p q) refl
+          where
+            one : (c : Bool) → ltb p q ≡ c → ⊥
+            one true h = u (omega (arith, ltb-true p q h))
+            one false h = v (omega (arith, ltb-false p q h))
+
+lower-high : (p q : ℕ) → p ≤ 100000 → q ≤ 100000 → nearer false p q ≤ 100000
+unfolding nearer meek
+lower-high p q a b = go (eqb p 0) (eqb q 0)
+  where
+    go : (x y : Bool) → cond x q (cond y p (min p q)) ≤ 100000
+    go true y = b
+    go false true = a
+    go false false = omega arith
+
+-- p holds the lowest price of the sells
+pub record Lowest (price : Entry → ℕ) (l : List Entry) (p : ℕ) : Type 0 where
+  pub holds : p ≡ held (nearest price false 0 l)
+  pub high : nearest price false 0 l ≤ 100000
+
+pub lowest-none : (price : Entry → ℕ) → Lowest price [] 1000000
+unfolding nearest scan held
+lowest-none price = record { holds = refl; high = omega arith }
+
+pub lowest-more : (price : Entry → ℕ) (l : List Entry) (e : Entry) (p : ℕ) → Lowest price l p → price e ≤ 100000
+    → Lowest price (l ++ (e ∷ [])) (lower p (sellsAt (e .sell) (held (price e))))
+unfolding held
+lowest-more price l e p h high = rw (h .holds) (record {
+  holds = side (e .sell) ∙ ap held (sym (nearest-more price false l e));
+  high = rw (nearest-more price false l e) (low (e .sell));
+})
+  where
+    q : ℕ
+    q = nearest price false 0 l
+
+    stays : (b : Bool) → eqb q 0 ≡ b → lower (cond b 1000000 q) 1000000 ≡ cond b 1000000 q
+    stays true f = refl
+    stays false f = rw (lt-ltb q 1000000 (omega (arith, h .high)))
+
+    side : (s : Bool) → lower (held q) (sellsAt s (held (price e))) ≡ held (cond (Bool·beq s true) (nearer false q (price e)) q)
+    side true = lower-nearer q (price e) (h .high) high
+    side false = stays (eqb q 0) refl
+
+    low : (s : Bool) → cond (Bool·beq s true) (nearer false q (price e)) q ≤ 100000
+    low true = lower-high q (price e) (h .high) high
+    low false = h .high
+
+pub lowest-told : (price : Entry → ℕ) (l : List Entry) (p : ℕ) → Lowest price l p → told p ≡ nearest price false 0 l
+unfolding held told
+lowest-told price l p h = rw (h .holds) (go (eqb (nearest price false 0 l) 0) refl)
+  where
+    go : (b : Bool) → eqb (nearest price false 0 l) 0 ≡ b → told (cond b 1000000 (nearest price false 0 l)) ≡ nearest price false 0 l
+    go true f = sym (eqb-true (nearest price false 0 l) 0 f)
+    go false f = rw (ne-eqb (nearest price false 0 l) 1000000 (λ e. omega (arith, h .high)))
+
+-- ---- reading on from a price is the nearer of it and what is read from none: both are the best of what is on offer ----
+
+pub nearest-away : (price : Entry → ℕ) (s : Bool) (a : ℕ) (l : List Entry) → nearest price s a l ≡ nearer s a (nearest price s 0 l)
+nearest-away price s a l = best-one (nearest-tells price s a l) (best-nearer (best-alone s a) (nearest-offered price s l))

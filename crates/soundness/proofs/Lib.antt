@@ -1,0 +1,10 @@
+pub mod PairLaws
+pub mod SpreadLaws
+pub mod ClauseLaws
+pub mod SeatLaws
+pub mod BestLaws
+pub mod PassLaws
+pub mod BookLaws
+pub mod DecideLaws
+pub mod SoundBookDecides
+pub mod SummaryLaws

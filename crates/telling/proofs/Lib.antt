@@ -1,0 +1,4 @@
+pub mod PackLaws
+pub mod StageLaws
+pub mod GoingLaws
+pub mod Within

@@ -1,0 +1,96 @@
+use Prim.Native.Nat.{_≤_, _-_}
+use lib.ListN.{length, length-set}
+use native.Mathlib.Omega.{arith}
+use mathlib.Core.Path.{_≡_}
+use borrow.Author.Needs.{needs}
+use Rattle.test_packing.proofs.text.gather.Statement.{statement}
+use Rattle.test_packing.proofs.text.gather.Tie as tie
+
+abbrev Inv-loop : tie.InvT-loop
+Inv-loop text from to out₀ n₀ at₀ out n at = (n ≤ length out) × (length out ≡ length out₀)
+
+abbrev μ-loop : tie.MeasureT-loop
+μ-loop text from to out₀ n₀ at₀ out n at = length out - n
+
+loop-holds : tie.Need-loop-holds Inv-loop μ-loop
+loop-holds c = search needs
+
+same-length : tie.Need-same-length Inv-loop μ-loop
+same-length c = search needs
+
+returns : tie.Need-returns Inv-loop μ-loop
+returns c = search needs
+
+add-next : tie.Need-add-next Inv-loop μ-loop
+add-next c = search needs
+
+same-length-2 : tie.Need-same-length-2 Inv-loop μ-loop
+same-length-2 c = search needs
+
+returns-2 : tie.Need-returns-2 Inv-loop μ-loop
+returns-2 c = search needs
+
+shared-slice-read-digit : tie.Need-shared-slice-read-digit Inv-loop μ-loop
+shared-slice-read-digit c = search needs
+
+digit-requires : tie.Need-digit-requires Inv-loop μ-loop
+digit-requires c κs = search needs
+
+mul-out : tie.Need-mul-out Inv-loop μ-loop
+mul-out c = search needs
+
+shared-slice-read-digit-2 : tie.Need-shared-slice-read-digit-2 Inv-loop μ-loop
+shared-slice-read-digit-2 c = search needs
+
+digit-requires-2 : tie.Need-digit-requires-2 Inv-loop μ-loop
+digit-requires-2 c κs = search needs
+
+add-out : tie.Need-add-out Inv-loop μ-loop
+add-out c = search needs
+
+slice-write-out : tie.Need-slice-write-out Inv-loop μ-loop
+slice-write-out c = search needs
+
+add-n : tie.Need-add-n Inv-loop μ-loop
+add-n c = search needs
+
+add-at : tie.Need-add-at Inv-loop μ-loop
+add-at c = search needs
+
+loop-less : tie.Need-loop-less Inv-loop μ-loop
+loop-less c = simp length-set (omega arith)
+
+loop-again : tie.Need-loop-again Inv-loop μ-loop
+loop-again c = (simp length-set (omega arith), simp length-set (omega arith))
+
+same-length-3 : tie.Need-same-length-3 Inv-loop μ-loop
+same-length-3 c = search needs
+
+returns-3 : tie.Need-returns-3 Inv-loop μ-loop
+returns-3 c = search needs
+
+pub gather-spec : {M : Type 1} → statement M
+gather-spec =
+    tie.close
+    (tie.spec
+    Inv-loop
+    μ-loop
+    loop-holds
+    same-length
+    returns
+    add-next
+    same-length-2
+    returns-2
+    shared-slice-read-digit
+    digit-requires
+    mul-out
+    shared-slice-read-digit-2
+    digit-requires-2
+    add-out
+    slice-write-out
+    add-n
+    add-at
+    loop-less
+    loop-again
+    same-length-3
+    returns-3)

@@ -1,0 +1,27 @@
+use mathlib.Core.Path.{sym, _∙_}
+use borrow.Author.Needs.{needs}
+use Rattle.test_prices.proofs.tell.slide.Statement.{statement}
+use Rattle.test_prices.proofs.tell.slide.Tie as tie
+
+is-mpv-requires : tie.Need-is-mpv-requires
+is-mpv-requires c κs = search needs
+
+is-slide-requires : tie.Need-is-slide-requires
+is-slide-requires c κs = sym (c .before .is-mpv .ensures) ∙ c .if1 .taken
+
+truth-requires : tie.Need-truth-requires
+truth-requires c κs = search needs
+
+returns : tie.Need-returns
+returns c = search needs
+
+nothing-requires : tie.Need-nothing-requires
+nothing-requires c κs = search needs
+
+returns-2 : tie.Need-returns-2
+returns-2 c = search needs
+
+pub slide-spec : {M : Type 1} → statement M
+slide-spec =
+    tie.close
+    (tie.spec is-mpv-requires is-slide-requires truth-requires returns nothing-requires returns-2)
