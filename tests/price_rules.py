@@ -191,7 +191,7 @@ def answer_legal(m, price):
     return (int(legal(m, price)),)
 
 
-def answer_restless(m, kind, side, limit, away, contra, display, working):
+def answer_stirring(m, kind, side, limit, away, contra, display, working):
     if m not in MPVS or not none_or_legal(m, away) or not none_or_legal(m, contra):
         return None
     if side == BUY:
@@ -223,7 +223,7 @@ ASK = {
     "resting": (4, answer_resting),
     "eased": (5, answer_eased),
     "legal": (6, answer_legal),
-    "restless": (7, answer_restless),
+    "stirring": (7, answer_stirring),
     "slide": (8, answer_slide),
     "best": (9, answer_best),
     "away": (10, answer_away),

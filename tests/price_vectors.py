@@ -17,7 +17,7 @@ Its answer is one line. `-` stands for a question outside what the rule asked is
     4 resting     side display aim-display aim-working                    display, working price
     5 eased       side away display working                               working price
     6 legal       M price                                                 1 or 0
-    7 restless    M kind side limit away contra display working           1 or 0: marketable, or not at its resting prices
+    7 stirring    M kind side limit away contra display working           1 or 0: marketable, or not at its resting prices
     8 slide       M side limit display working                            1 or 0: sound prices of a sliding quote
     9 best        side away shown                                         NBO for a bid, NBB for an offer; shown: the best displayed contra price
     10 away       side bid offer                                          the away price that A stands for: the offer for a buy, the bid for a sell
@@ -100,9 +100,9 @@ def worked_session():
     add("eased", BUY, 219, 219, 220, says="219")
     add_both(MMRP, 225, 219, 222, 1, says="0 218 219")
     add("resting", BUY, 219, 218, 219, says="219 219")
-    add("restless", 1, MMRP, BUY, 225, 219, 222, 219, 219, says="0")
+    add("stirring", 1, MMRP, BUY, 225, 219, 222, 219, 219, says="0")
     # Away offer gone: marketable against 222.
-    add("restless", 1, MMRP, BUY, 225, NONE, 222, 219, 219, says="1")
+    add("stirring", 1, MMRP, BUY, 225, NONE, 222, 219, 219, says="1")
 
 
 # ---- the request for aims at its edges ----
@@ -285,7 +285,7 @@ def by_chance():
         step = m if side == BUY else -m
         # at the aims, as a rule: a quote that has just moved
         shown, works = r.choice((aims, aims, (aims[0] - step, aims[1]), (aims[0] + step, aims[1]), (aims[0], aims[1] - step)))
-        add("restless", m, kind, side, *prices, shown, works)
+        add("stirring", m, kind, side, *prices, shown, works)
         add("slide", m, side, prices[0], shown, works)
 
 

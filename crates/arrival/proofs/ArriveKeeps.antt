@@ -32,7 +32,7 @@ use Rattle.terms.specs.Terms.{marketOf}
 use Rattle.arrival.specs.Cancel.{cutQuote}
 use Rattle.arrival.specs.Take.{Taking, took}
 use Rattle.arrival.specs.Post.{pricesOf, resting, stopFor}
-use Rattle.arrival.specs.Arrive.{told, ofQuotes, bothQuotes, rejectedBy, replaced, remainder, cancelledRest, finished, entered, rejection, arrivedAs, arrived}
+use Rattle.arrival.specs.Arrive.{reported, ofQuotes, bothQuotes, rejectedBy, replaced, remainder, cancelledRest, finished, entered, rejection, arrivedAs, arrived}
 use Rattle.arrival.specs.Asks.{Arriving}
 use Rattle.arrival.proofs.ReasonLaws.{stop-among, rejection-among}
 use Rattle.arrival.proofs.TakeLaws.{took-few, took-length, took-left, took-all, took-sound, took-packs, took-clears}
@@ -157,7 +157,7 @@ module _ (t : Terms) (e : Entry) (l : List Entry) (a : Arriving t e l) where
 
     rest-stage : (why left : ℕ) → why ≤ 31 → left ≤ e .quantity → Stage (t .m) (t .given + 1) 64 2 (cancelledRest why e left r)
     rest-stage why left h most =
-        stage-then {top = t .given + 1} {most = 64} {n = 1} {x = told (cancelled why (remainder e left)) r} (ofQuotes e (cutQuote 29 (e .party) (not (e .sell))))
+        stage-then {top = t .given + 1} {most = 64} {n = 1} {x = reported (cancelled why (remainder e left)) r} (ofQuotes e (cutQuote 29 (e .party) (not (e .sell))))
         (record {
           sound = numbered;
           size = omega arith;
@@ -222,7 +222,7 @@ module _ (t : Terms) (e : Entry) (l : List Entry) (a : Arriving t e l) where
       low : t .given + 1 ≤ 1000000
       low = omega (arith, a .fresh)
 
-      first : Stage (t .m) (t .given + 1) 64 1 (told (rejected why e) l)
+      first : Stage (t .m) (t .given + 1) 64 1 (reported (rejected why e) l)
       first = record {
         sound = so;
         size = full;
@@ -244,7 +244,7 @@ module _ (t : Terms) (e : Entry) (l : List Entry) (a : Arriving t e l) where
           (stage-cut (cutQuote 30 (e .party) false l .final) (c .sound) (c .size) 30 (e .party) true (omega arith) low)
 
       pick : (b : Bool) → Stage (t .m) (t .given + 1) 64 (length l + 3)
-          (andThen (told (rejected why e) l)
+          (andThen (reported (rejected why e) l)
           (cond b (λ (r : List Entry). andThen (cutQuote 30 (e .party) false r) (cutQuote 30 (e .party) true)) (cutQuote 30 (e .party) (e .sell))))
       pick true = more (stage-then (λ (r : List Entry). andThen (cutQuote 30 (e .party) false r) (cutQuote 30 (e .party) true)) first both) (omega arith)
       pick false =

@@ -19,7 +19,7 @@ use Rattle.lists.proofs.ChooseLaws.{Tells}
 use Rattle.packing.specs.Room.{AllPack}
 use Rattle.packing.proofs.ReportLaws.{cancelled-packs}
 use Rattle.book.specs.declared.Entry.{Entry}
-use Rattle.book.specs.Entries.{quote, own, quoteOf}
+use Rattle.book.specs.Entries.{quote, ownEntry, quoteOf}
 use Rattle.book.specs.Look.{entryOf, quoteIn}
 use Rattle.book.proofs.LookLaws.{entry-tells, quote-tells}
 use Rattle.soundness_theory.proofs.Facts.{EntryFacts, PairFacts, Sound}
@@ -124,7 +124,7 @@ module _ (party : ℕ) (l : List Entry) {m top : ℕ} (so : Sound m top l) where
   cancel-entry-sound number = cut-sound 28 l (entryOf party number l) so
 
   pub cancel-entry-packs : (number : ℕ) → top ≤ 1000000 → AllPack (cancelEntry party number l .records)
-  cancel-entry-packs number low = cut-packs 28 l (own party number) (λ _. 0) (entryOf party number l) (entry-tells l party number) (omega arith) low so
+  cancel-entry-packs number low = cut-packs 28 l (ownEntry party number) (λ _. 0) (entryOf party number l) (entry-tells l party number) (omega arith) low so
 
   pub cancel-quote-sound : (s : Bool) → Sound m top (cancelQuote party s l .final)
   cancel-quote-sound s = quote-sound 28 party s l so
@@ -137,4 +137,4 @@ cancel-entry-few party number l = cut-few 28 l (entryOf party number l)
 
 pub cancel-entry-length : (party number : ℕ) (l : List Entry)
     → length (cancelEntry party number l .final) + length (cancelEntry party number l .records) ≡ length l
-cancel-entry-length party number l = cut-length 28 l (own party number) (λ _. 0) (entryOf party number l) (entry-tells l party number)
+cancel-entry-length party number l = cut-length 28 l (ownEntry party number) (λ _. 0) (entryOf party number l) (entry-tells l party number)

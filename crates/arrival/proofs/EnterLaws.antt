@@ -10,10 +10,10 @@ use borrow.Author.Tests.{eqb-true}
 use Rattle.prices.specs.declared.Market.{Market}
 use Rattle.prices.specs.declared.Prices.{Prices}
 use Rattle.prices.specs.Side.{away}
-use Rattle.prices.specs.Step.{mpv, given}
+use Rattle.prices.specs.Step.{mpv, noneOrLegal}
 use Rattle.prices.specs.Aims.{sliding, minds, aims, Bounds}
 use Rattle.prices.specs.Protect.{Cents}
-use Rattle.prices.proofs.StepLaws.{Given, given-is, given-none, given-legal, is-legal}
+use Rattle.prices.proofs.StepLaws.{NoneOrLegal, given-is, given-none, given-legal, is-legal}
 use Rattle.lists.specs.Run.{Ran, still, leading, ran, andThen}
 use Rattle.lists.proofs.RunLaws.{run-stop, run-go}
 use Rattle.lists.proofs.Bools.{and-left}
@@ -42,7 +42,7 @@ use Rattle.terms.specs.Terms.{marketOf}
 use Rattle.arrival.specs.Cancel.{Asks, cutQuote}
 use Rattle.arrival.specs.Take.{Taking, bound, offered, nextTake, chances, taken, took}
 use Rattle.arrival.specs.Post.{pricesBefore, pricesOf, resting, stopFor, Posts}
-use Rattle.arrival.specs.Arrive.{told, ofQuotes, bothQuotes, rejectedBy, posted, remainder, cancelledRest, finished, entered, noneTraded, stopsAtOnce, protectionBefore, protectionFor, orElse, rejection, arrivedAs, arrived}
+use Rattle.arrival.specs.Arrive.{reported, ofQuotes, bothQuotes, rejectedBy, posted, remainder, cancelledRest, finished, entered, noneTraded, stopsAtOnce, protectionBefore, protectionFor, orElse, rejection, arrivedAs, arrived}
 use Rattle.arrival.specs.Asks.{trades, Arriving, Enters, tradeAs, NextTrade, Rests, Finishes}
 use Rattle.telling.proofs.StageLaws.{roomy-first, staged-then, staged-room, staged-none, staged-as, staged-go, roomy-as}
 use Rattle.arrival.proofs.TakeLaws.{take-falls, takes-now}
@@ -58,7 +58,7 @@ facts-of {t} a = sound-for (record { top = t .given; market = a .market; entries
 enters-bounds : {t : Terms} {e : Entry} {f : Facing} {b : Book} → Enters t e f b → Bounds (t .m) (away (marketOf t) (e .sell)) (f .contra)
 unfolding soundMarket
 enters-bounds {t} {e} {f} {b} n = record {
-  step = and-left (mpv (t .m)) (given (t .m) (t .bid) && given (t .m) (t .offer)) (n .arriving .market);
+  step = and-left (mpv (t .m)) (noneOrLegal (t .m) (t .bid) && noneOrLegal (t .m) (t .offer)) (n .arriving .market);
   away = given-is (market-facts (marketOf t) (n .arriving .market) .given (e .sell));
   contra = rw (n .faces .contra) (given-is (given-contra (e .sell) (facts-of (n .arriving) .1)));
 }
@@ -82,17 +82,17 @@ prices-known {t} {e} {b} {c} p = ap (λ (x : Prices). cond (sliding (e .kind)) x
     go true q = ap to (p .known q)
     go false q = unminded (t .m) (e .kind) (e .sell) (e .limit) (away (marketOf t) (e .sell)) c (contra (e .sell) (entriesOf b)) q
 
-pub given-high : {m p : ℕ} → Given m p → p ≤ 100000
+pub given-high : {m p : ℕ} → NoneOrLegal m p → p ≤ 100000
 given-high {m} {p} g = pick (eqb p 0) refl
   where
     pick : (b : Bool) → eqb p 0 ≡ b → p ≤ 100000
     pick true q = omega (arith, eqb-true p 0 q)
     pick false q = g .legal q .high
 
-pub given-display : {m top : ℕ} (x : Entry) → EntryFacts m top x → Given m (display x)
+pub given-display : {m top : ℕ} (x : Entry) → EntryFacts m top x → NoneOrLegal m (display x)
 given-display {m} x f = pick (x .pricing) (f .prices)
   where
-    pick : (p : Pricing) → PricedAs m (x .kind) (x .sell) (x .limit) (x .working) p → Given m (shownAs (x .limit) p)
+    pick : (p : Pricing) → PricedAs m (x .kind) (x .sell) (x .limit) (x .working) p → NoneOrLegal m (shownAs (x .limit) p)
     pick Fixed h = given-legal (f .limit)
     pick Dark h = given-none
     pick (Sliding d) h = given-legal (h .slides .shown)
@@ -102,7 +102,7 @@ given-display {m} x f = pick (x .pricing) (f .prices)
 pub national-cents : {t : Terms} {e : Entry} {f : Facing} {b : Book} → Enters t e f b → Cents (f .national) (e .limit)
 national-cents {t} {e} {f} {b} n =
     let k = facts-of (n .arriving) in
-    let g : Given (t .m) (national (e .sell) (away (marketOf t) (e .sell)) (entriesOf b)) =
+    let g : NoneOrLegal (t .m) (national (e .sell) (away (marketOf t) (e .sell)) (entriesOf b)) =
     given-nearest display (e .sell) (away (marketOf t) (e .sell)) (entriesOf b) (k .0 .given (e .sell)) (all-map (λ x h. given-display x h) (entriesOf b) (k .1 .entries)) in
     record { best = rw (n .faces .national) (given-high g); limit = is-legal (t .m) (e .limit) (n .arriving .limit) .high }
 
@@ -189,12 +189,12 @@ module _ (t : Terms) (e : Entry) (l : List Entry) where
 -- ---- a report of its own ----
 
 pub told-staged : {b : Book} {room room′ : List ℕ} {n n′ : ℕ} (r s : Report) → s ≡ r → WellFormed b → Put room n s room′ n′
-    → Staged (told r (entriesOf b)) room n b room′ n′
+    → Staged (reported r (entriesOf b)) room n b room′ n′
 told-staged {b} r s q w p = staged-go (entriesOf b) (entriesOf b) q p (book-of-entries b w) (fits-64 b w)
 
 -- the first stage asks for its room, and the next for what is left of it
 pub first-room : {room : List ℕ} {n : ℕ} (r s : Report) (l : List Entry) (f : List Entry → Ran (List Entry) Report) → s ≡ r
-    → Roomy room n (andThen (told r l) f .records) → Roomy room n (s ∷ [])
+    → Roomy room n (andThen (reported r l) f .records) → Roomy room n (s ∷ [])
 first-room r s l f q h = rw q (roomy-first (r ∷ []) (f l .records) h)
 
 -- ---- rejected ----
@@ -206,11 +206,11 @@ module _ (why : ℕ) (e : Entry) where
   abbrev oneGoes : List Entry → Ran (List Entry) Report
   oneGoes = cutQuote 30 (e .party) (e .sell)
 
-  rejected-both : (l : List Entry) → bothQuotes why ≡ true → rejectedBy why e l ≡ andThen (told (rejected why e) l) bothGo
+  rejected-both : (l : List Entry) → bothQuotes why ≡ true → rejectedBy why e l ≡ andThen (reported (rejected why e) l) bothGo
   unfolding rejectedBy
   rejected-both l q = rw q refl
 
-  rejected-one : (l : List Entry) → bothQuotes why ≡ false → rejectedBy why e l ≡ andThen (told (rejected why e) l) oneGoes
+  rejected-one : (l : List Entry) → bothQuotes why ≡ false → rejectedBy why e l ≡ andThen (reported (rejected why e) l) oneGoes
   unfolding rejectedBy
   rejected-one l q = rw q refl
 
@@ -220,7 +220,7 @@ module _ (why : ℕ) (e : Entry) where
     reject-room = first-room (rejected why e) s (entriesOf b) (cond (bothQuotes why) bothGo oneGoes) is (a .roomy)
 
     module _ {room′ : List ℕ} {n′ : ℕ} (p : Put room n s room′ n′) where
-      first : Staged (told (rejected why e) (entriesOf b)) room n b room′ n′
+      first : Staged (reported (rejected why e) (entriesOf b)) room n b room′ n′
       first = told-staged (rejected why e) s is (a .well) p
 
       module _ (q : bothQuotes why ≡ true) where
@@ -288,7 +288,7 @@ module _ (why : ℕ) (e : Entry) (left : ℕ) {b : Book} {room : List ℕ} {n : 
   cancel-room = first-room (cancelled why (remainder e left)) s (entriesOf b) otherGoes says (a .roomy)
 
   module _ {room′ : List ℕ} {n′ : ℕ} (p : Put room n s room′ n′) where
-    first-told : Staged (told (cancelled why (remainder e left)) (entriesOf b)) room n b room′ n′
+    first-told : Staged (reported (cancelled why (remainder e left)) (entriesOf b)) room n b room′ n′
     first-told = told-staged (cancelled why (remainder e left)) s says (a .well) p
 
     pub other-asks : quote e ≡ true → Asks (cutQuote 29 (e .party) (not (e .sell)) (entriesOf b)) b room′ n′

@@ -34,7 +34,7 @@ use Rattle.terms.specs.Terms.{marketOf}
 use Rattle.arrival.specs.Cancel.{cutQuote}
 use Rattle.arrival.specs.Take.{Taking, took}
 use Rattle.arrival.specs.Post.{pricesOf, resting, stopFor}
-use Rattle.arrival.specs.Arrive.{told, bothQuotes, rejectedBy, replaced, remainder, finished, entered, noneTraded, rejection, arrivedAs, arrived, blocks}
+use Rattle.arrival.specs.Arrive.{reported, bothQuotes, rejectedBy, replaced, remainder, finished, entered, noneTraded, rejection, arrivedAs, arrived, blocks}
 use Rattle.arrival.specs.Asks.{Arriving}
 use Rattle.arrival.proofs.ReasonLaws.{rejection-among, order-passes}
 use Rattle.arrival.proofs.TakeLaws.{took-all, took-sound}
@@ -79,14 +79,14 @@ rejected-is t e l h = go (rejection t e l) h
     go zero k = absurd (omega arith)
     go (suc n) k = refl
 
-same-is : (why : ℕ) (e : Entry) (l : List Entry) → why ≤ 24 → rejectedBy why e l ≡ andThen (told (rejected why e) l) (cutQuote 30 (e .party) (e .sell))
+same-is : (why : ℕ) (e : Entry) (l : List Entry) → why ≤ 24 → rejectedBy why e l ≡ andThen (reported (rejected why e) l) (cutQuote 30 (e .party) (e .sell))
 unfolding rejectedBy
 same-is why e l h = rw (one-side why h) refl
 
 pub rejected-takes-same : {t : Terms} {e : Entry} {l : List Entry} → Arriving t e l → 20 ≤ rejection t e l → rejection t e l ≤ 24 → TakesSame t e l
 unfolding blocks
 rejected-takes-same {t} {e} {l} a low high =
-    let same : arrived t e l ≡ andThen (told (rejected (rejection t e l) e) l) (cutQuote 30 (e .party) (e .sell)) =
+    let same : arrived t e l ≡ andThen (reported (rejected (rejection t e l) e) l) (cutQuote 30 (e .party) (e .sell)) =
     rejected-is t e l (omega arith) ∙ same-is (rejection t e l) e l high in
     let others : (i : ℕ) (y : Entry) → At l i y → quoteOf (e .party) (e .sell) y ≡ false → Rests (arrived t e l .final) y =
     λ i y h q. rw same (quote-leaves 30 (e .party) (e .sell) l i y h q) in
@@ -121,7 +121,7 @@ two-sides why low high = go (eqb why 25) refl
     go false q = eq-eqb why 26 (omega (arith, eqb-false why 25 q))
 
 both-is : (why : ℕ) (e : Entry) (l : List Entry) → 25 ≤ why → why ≤ 26
-    → rejectedBy why e l ≡ andThen (told (rejected why e) l) (λ (r : List Entry). andThen (cutQuote 30 (e .party) false r) (cutQuote 30 (e .party) true))
+    → rejectedBy why e l ≡ andThen (reported (rejected why e) l) (λ (r : List Entry). andThen (cutQuote 30 (e .party) false r) (cutQuote 30 (e .party) true))
 unfolding rejectedBy
 both-is why e l low high = rw (two-sides why low high) refl
 
@@ -131,7 +131,7 @@ protected-takes-both {t} {e} {l} a low =
     let so : Sound (t .m) (t .given) l = before a in
     let r : List Entry = cutQuote 30 (e .party) false l .final in
     let high : rejection t e l ≤ 26 = rejection-among t e l .most in
-    let same : arrived t e l ≡ andThen (told (rejected (rejection t e l) e) l)
+    let same : arrived t e l ≡ andThen (reported (rejected (rejection t e l) e) l)
     (λ (r : List Entry). andThen (cutQuote 30 (e .party) false r) (cutQuote 30 (e .party) true)) =
     rejected-is t e l (omega arith) ∙ both-is (rejection t e l) e l low high in
     record {
@@ -175,7 +175,7 @@ entered-is t e l h = rw h refl
 
 -- what the end of an arrival is where something is left and a reason stops it
 stopped-is : (t : Terms) (e : Entry) (left why : ℕ) (l : List Entry) → 1 ≤ left → 1 ≤ why → quote e ≡ true
-    → finished t e left why l ≡ andThen (told (cancelled why (remainder e left)) l) (cutQuote 29 (e .party) (not (e .sell)))
+    → finished t e left why l ≡ andThen (reported (cancelled why (remainder e left)) l) (cutQuote 29 (e .party) (not (e .sell)))
 stopped-is t e zero why l some stops q = absurd (omega arith)
 stopped-is t e (suc left) zero l some stops q = absurd (omega arith)
 stopped-is t e (suc left) (suc why) l some stops q = rw q refl
@@ -188,7 +188,7 @@ remainder-takes-opposite {t} {e} {l} a q h some stops =
     let b : List Entry = tradesOf t e l .final .book in
     let first : replaced e l ≡ cutQuote 27 (e .party) (e .sell) l = rw q refl in
     let last : finished t e (tradesOf t e l .final .left) (stopFor t e b) b
-    ≡ andThen (told (cancelled (stopFor t e b) (remainder e (tradesOf t e l .final .left))) b) (cutQuote 29 (e .party) (not (e .sell))) =
+    ≡ andThen (reported (cancelled (stopFor t e b) (remainder e (tradesOf t e l .final .left))) b) (cutQuote 29 (e .party) (not (e .sell))) =
     stopped-is t e (tradesOf t e l .final .left) (stopFor t e b) b some stops q in
     let sound : Sound (t .m) (t .given) r = rw first (quote-sound 27 (e .party) (e .sell) l so) in
     let final : arrived t e l .final ≡ cutQuote 29 (e .party) (not (e .sell)) b .final =

@@ -16,7 +16,7 @@ use Rattle.prices.specs.Step.{pastLast}
 use Rattle.prices.specs.Aims.{sliding, minds, minded, upTo, shortOf, aimWorking, aims}
 use Rattle.prices.specs.Post.{bars20, bars22, bars23, firstStop, stopped}
 use Rattle.prices.proofs.FrameLaws.{seen, seen-high, seen-meek, meek-either, reaches-false, reaches-not}
-use Rattle.prices.proofs.StepLaws.{Legal, Given, within-last}
+use Rattle.prices.proofs.StepLaws.{Legal, NoneOrLegal, within-last}
 use Rattle.prices.proofs.AimLaws.{unbound, faced, Aimed, aimed}
 use Rattle.prices.proofs.RestLaws.{Slides, arrives}
 use Rattle.prices.proofs.QuoteLaws.{unmarketable, minding-rests}
@@ -54,7 +54,7 @@ module _ (k : Market) (e : Entry) where
       go true = omega (arith, seen-high (e .sell) (e .limit) h)
       go false = seen-meek (e .sell) (e .limit) (away k (e .sell))
 
-  pub bound-high : {m : ℕ} → Legal m (e .limit) → Given m (away k (e .sell)) → bound k e ≤ 200000
+  pub bound-high : {m : ℕ} → Legal m (e .limit) → NoneOrLegal m (away k (e .sell)) → bound k e ≤ 200000
   unfolding upTo
   bound-high hl ga = go (eqb (away k (e .sell)) 0) refl
     where

@@ -21,8 +21,8 @@ use Rattle.arrival.specs.Take.{Taking, took}
 use Rattle.arrival.specs.Post.{pricesOf, resting, stopFor}
 
 -- a report of its own, and no change
-abbrev pub told : Report → List Entry → Ran (List Entry) Report
-told r l = record { final = l; records = r ∷ [] }
+abbrev pub reported : Report → List Entry → Ran (List Entry) Report
+reported r l = record { final = l; records = r ∷ [] }
 
 -- what concerns a maker's quotes concerns quotes only: "An order's rest is just cancelled."
 abbrev pub ofQuotes : Entry → (List Entry → Ran (List Entry) Report) → List Entry → Ran (List Entry) Report
@@ -38,7 +38,7 @@ bothQuotes why = eqb why 25 || eqb why 26
 -- "30 own quote rejected"
 unfoldable pub rejectedBy : ℕ → Entry → List Entry → Ran (List Entry) Report
 rejectedBy why e l =
-    andThen (told (rejected why e) l)
+    andThen (reported (rejected why e) l)
     (cond (bothQuotes why)
     (λ (r : List Entry). andThen (cutQuote 30 (e .party) false r) (cutQuote 30 (e .party) true))
     (cutQuote 30 (e .party) (e .sell)))
@@ -69,7 +69,7 @@ remainder e left = record {
 
 -- "the rest is cancelled and", for a quote, "the maker's opposite quote too"; "29 opposite side"
 abbrev pub cancelledRest : ℕ → Entry → ℕ → List Entry → Ran (List Entry) Report
-cancelledRest why e left l = andThen (told (cancelled why (remainder e left)) l) (ofQuotes e (cutQuote 29 (e .party) (not (e .sell))))
+cancelledRest why e left l = andThen (reported (cancelled why (remainder e left)) l) (ofQuotes e (cutQuote 29 (e .party) (not (e .sell))))
 
 -- the end of an arrival that was not rejected: nothing is left, or it posts, or it is stopped
 abbrev pub finished : Terms → Entry → ℕ → ℕ → List Entry → Ran (List Entry) Report

@@ -91,7 +91,7 @@ pub record Enters (t : Terms) (e : Entry) (f : Facing) (b : Book) : Type 0 where
   pub faces : Faces t e (entriesOf b) f
 
 -- and whether it would trade
-pub record Decides (t : Terms) (e : Entry) (f : Facing) (trading : Bool) (b : Book) : Type 0 where
+pub record EntersTrading (t : Terms) (e : Entry) (f : Facing) (trading : Bool) (b : Book) : Type 0 where
   pub enters : Enters t e f b
   pub trades : trading ≡ trades t e (entriesOf b)
 
@@ -102,7 +102,7 @@ pub record Arrives (t : Terms) (e : Entry) (f : Facing) (b : Book) (room : List 
 
 -- one that goes on, with room for it; that it is not rejected is the caller's to know
 pub record Goes (t : Terms) (e : Entry) (f : Facing) (trading : Bool) (b : Book) (room : List ℕ) (n : ℕ) : Type 0 where
-  pub decides : Decides t e f trading b
+  pub decides : EntersTrading t e f trading b
   pub roomy : Roomy room n (entered t e (entriesOf b) .records)
 
 pub record TakesOn (t : Terms) (e : Entry) (trading : Bool) (b : Book) (left : ℕ) (room : List ℕ) (n : ℕ) : Type 0 where

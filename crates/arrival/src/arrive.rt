@@ -36,7 +36,7 @@ ghost use Rattle.arrival.specs.Take.{took};
 ghost use Rattle.arrival.specs.Post.{stopFor};
 ghost use Rattle.arrival.specs.Arrive.{protectionBefore, stopsAtOnce, rejection, rejectedBy, replaced, posted, remainder, cancelledRest, finished, entered, arrived};
 ghost use Rattle.arrival.specs.Cancel.{Asks};
-ghost use Rattle.arrival.specs.Asks.{trades, Enters, Decides, Arrives, Goes, Finishes, Rests, TakesOn, TookAs};
+ghost use Rattle.arrival.specs.Asks.{trades, Enters, EntersTrading, Arrives, Goes, Finishes, Rests, TakesOn, TookAs};
 
 // Price protection before this NBO or NBB, for quotes only: the reason to reject, or 0.
 fn protection_for(t: Terms, e: Entry, national: u32) -> u32
@@ -67,7 +67,7 @@ fn is_trading(b: Book, t: Terms, e: Entry, f: Facing) -> bool
 
 // A quote that is stopped before it trades: the reason to reject, or 0.
 fn stops_at_once(b: Book, t: Terms, e: Entry, f: Facing, trading: bool) -> u32
-    requires { ⌜ Decides t e f trading b ⌝ }
+    requires { ⌜ EntersTrading t e f trading b ⌝ }
     ensures { λ r. ⌜ r ≡ stopsAtOnce t e (entriesOf b) ⌝ }
 {
     if !is_quote(e) {
@@ -81,7 +81,7 @@ fn stops_at_once(b: Book, t: Terms, e: Entry, f: Facing, trading: bool) -> u32
 
 // Why it is rejected, or 0.
 fn rejection_of(b: Book, t: Terms, e: Entry, f: Facing, trading: bool) -> u32
-    requires { ⌜ Decides t e f trading b ⌝ }
+    requires { ⌜ EntersTrading t e f trading b ⌝ }
     ensures { λ r. ⌜ r ≡ rejection t e (entriesOf b) ⌝ }
 {
     let why = protection_for(t, e, f.national);

@@ -18,8 +18,8 @@ use Rattle.lists.proofs.LoopLaws.{Held, nothing, something, Lowering, lower-tak
 use Rattle.lists.proofs.Bools.{clash}
 use Rattle.book.specs.declared.Entry.{Entry}
 use Rattle.book.specs.declared.Least.{Least}
-use Rattle.book.specs.Entries.{display, displayed, against, own, quoteOf}
-use Rattle.book.specs.Look.{rankOf, rankHeld, lower, cost, priority, eligible, bestContra, working, facing, nearest, contra, national, entryOf, quoteIn, lowest}
+use Rattle.book.specs.Entries.{display, displayed, against, ownEntry, quoteOf}
+use Rattle.book.specs.Look.{rankOf, rankHeld, lowerKey, cost, priority, eligible, bestContra, working, facing, nearest, contra, national, entryOf, quoteIn, lowest}
 use Rattle.book.proofs.OfferLaws.{Best, Alone, best-alone, best-nearer, best-same}
 
 -- THE BEST CONTRA ENTRY has the best price of all that are eligible; of those at its price none is displayed unless it is; and of those that
@@ -148,9 +148,9 @@ national-tells s a l = nearest-tells display s a l
 
 -- A PARTY'S ENTRY, A MAKER'S QUOTE: the oldest that is so, of which in a sound book there is one at most
 module _ (l : List Entry) where
-  pub entry-tells : (party number : ℕ) → Tells (own party number) (λ _. 0) l (entryOf party number l)
+  pub entry-tells : (party number : ℕ) → Tells (ownEntry party number) (λ _. 0) l (entryOf party number l)
   unfolding entryOf
-  entry-tells party number = first-tells (own party number) (λ _. 0) l
+  entry-tells party number = first-tells (ownEntry party number) (λ _. 0) l
 
   pub quote-tells : (party : ℕ) (s : Bool) → Tells (quoteOf party s) (λ _. 0) l (quoteIn party s l)
   unfolding quoteIn
@@ -176,7 +176,7 @@ held-rank {key} (something {i = i} {x = x} l) = rw (lt-ltb (key x) 1099511627776
 -- the turn of a scan, as its loop has it
 pub lower-turn : {key : Entry → ℕ} {test : Entry → Bool} {es : List Entry} {n i : ℕ} (held : Least) (d : Entry) (t : Least)
     → Lowering 1099511627776 test key es n (held .key) (held .at) i → n ≤ length es → i < n
-    → (test (getD es i d) ≡ true → key (getD es i d) < 1099511627776) → t ≡ lower held i (keyed 1099511627776 test key (getD es i d))
+    → (test (getD es i d) ≡ true → key (getD es i d) < 1099511627776) → t ≡ lowerKey held i (keyed 1099511627776 test key (getD es i d))
     → Lowering 1099511627776 test key es n (t .key) (t .at) (i + 1)
 lower-turn {key} {test} {es} {n} {i} held d t v fits inside small e = rw e (go (ltb (keyed 1099511627776 test key (getD es i d)) (held .key)) refl)
   where

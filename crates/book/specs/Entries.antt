@@ -30,8 +30,8 @@ abbrev pub against : Bool → Entry → Bool
 against s e = Bool·beq (e .sell) (not s)
 
 -- "cancel own entry", "cancel own quote": what a message names
-abbrev pub own : ℕ → ℕ → Entry → Bool
-own party number e = eqb (e .number) number && eqb (e .party) party
+abbrev pub ownEntry : ℕ → ℕ → Entry → Bool
+ownEntry party number e = eqb (e .number) number && eqb (e .party) party
 
 abbrev pub quoteOf : ℕ → Bool → Entry → Bool
 quoteOf party s e = quote e && (eqb (e .party) party && Bool·beq (e .sell) s)

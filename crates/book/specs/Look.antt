@@ -11,7 +11,7 @@ use Rattle.book.specs.declared.Entry.{Entry}
 use Rattle.book.specs.declared.Least.{Least}
 use Rattle.book.specs.declared.Rank.{Rank}
 use Rattle.book.specs.declared.Rank.the-variants.{At, Nowhere}
-use Rattle.book.specs.Entries.{display, displayed, against, own, quoteOf}
+use Rattle.book.specs.Entries.{display, displayed, against, ownEntry, quoteOf}
 
 -- the rank at which a search has found an entry
 abbrev pub rankOf : Found Entry → Rank
@@ -39,8 +39,8 @@ unfoldable pub bestContra : Bool → Bool → List Entry → Found Entry
 bestContra s shownOnly l = first (eligible s shownOnly) (lesser (priority s)) l
 
 -- a turn of a scan for it: a lesser key takes its place
-abbrev pub lower : Least → ℕ → ℕ → Least
-lower held at key = cond (ltb key (held .key)) (record { key = key; at = at }) held
+abbrev pub lowerKey : Least → ℕ → ℕ → Least
+lowerKey held at key = cond (ltb key (held .key)) (record { key = key; at = at }) held
 
 -- 2^40 stands above all keys, for none
 abbrev pub rankHeld : Least → Rank
@@ -76,7 +76,7 @@ hiddenWithin s limit l = any (hidden s limit) l
 -- ---- whom a message names ----
 
 unfoldable pub entryOf : ℕ → ℕ → List Entry → Found Entry
-entryOf party number l = first (own party number) never l
+entryOf party number l = first (ownEntry party number) never l
 
 unfoldable pub quoteIn : ℕ → Bool → List Entry → Found Entry
 quoteIn party s l = first (quoteOf party s) never l

@@ -2,7 +2,7 @@
 use crate::Entry;
 use crate::Pricing;
 ghost use mathlib.Core.Path.{_≡_};
-ghost use Rattle.book.specs.Entries.{display, displayed, quote, against, own, quoteOf, priced};
+ghost use Rattle.book.specs.Entries.{display, displayed, quote, against, ownEntry, quoteOf, priced};
 ghost use Rattle.book.specs.Shape.{zeroEntry};
 
 // What stands in an unused place.
@@ -66,7 +66,7 @@ pub fn is_against(sell: bool, e: Entry) -> bool
 }
 
 pub fn is_own(party: u8, number: u32, e: Entry) -> bool
-    ensures { λ r. ⌜ r ≡ own party number e ⌝ }
+    ensures { λ r. ⌜ r ≡ ownEntry party number e ⌝ }
 {
     (e.number == number) & (e.party == party)
 }

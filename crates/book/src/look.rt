@@ -12,7 +12,7 @@ ghost use mathlib.Core.Path.{_≡_};
 ghost use mathlib.Core.Bool.{true, cond};
 ghost use Prim.Native.Nat.{_<_};
 ghost use Rattle.book.specs.Shape.{entriesOf, WellFormed};
-ghost use Rattle.book.specs.Look.{cost, priority, eligible, bestContra, rankOf, lower, rankHeld, working, facing, hidden, hiddenWithin};
+ghost use Rattle.book.specs.Look.{cost, priority, eligible, bestContra, rankOf, lowerKey, rankHeld, working, facing, hidden, hiddenWithin};
 ghost use Rattle.book.specs.Entries.{displayed};
 ghost use Rattle.lists.specs.Choose.{keyed};
 
@@ -52,7 +52,7 @@ pub fn is_eligible(sell: bool, shown: bool, e: Entry) -> bool
 
 // A turn of a scan for the least key.
 pub fn lower_of(held: Least, at: usize, key: u64) -> Least
-    ensures { λ r. ⌜ r ≡ lower held at key ⌝ }
+    ensures { λ r. ⌜ r ≡ lowerKey held at key ⌝ }
 {
     if key < held.key {
         return Least { key, at };

@@ -18,7 +18,7 @@ use Rattle.telling.specs.Stage.{Staged, Put}
 use Rattle.settling.specs.Turns.{Settleable}
 use Rattle.terms.specs.declared.Terms.{Terms}
 use Rattle.terms.specs.Terms.{marketOf}
-use Rattle.arrival.specs.Arrive.{told, blocks}
+use Rattle.arrival.specs.Arrive.{reported, blocks}
 use Rattle.telling.proofs.StageLaws.{roomy-as}
 use Rattle.soundness.specs.declared.Check.{Check}
 use Rattle.series.specs.declared.Series.{Series}
@@ -26,13 +26,13 @@ use Rattle.handler.specs.declared.Ask.{Ask}
 use Rattle.handler.specs.declared.Answer.{Answer}
 use Rattle.handler.specs.Asked.{quotes}
 use Rattle.handler.specs.Refuse.{refusalOf}
-use Rattle.handler.specs.Accept.{comer, own, termsAfter, blockedAfter, settledIf}
+use Rattle.handler.specs.Accept.{comer, ownPart, termsAfter, blockedAfter, settledIf}
 use Rattle.handler.specs.Acts.{Acts, SettlesIf, blockedBy}
-use Rattle.handler.specs.Handle.{answered, refused, accepted, judged}
+use Rattle.handler.specs.Handle.{inRoom, refused, accepted, judged}
 use Rattle.handler.proofs.Stages.{settled-open, then-sound, then-room, then-done, accepted-answer}
 use Rattle.handler.proofs.HandleLaws.{acts-accepted}
 
-pub told-staged : (b : Book) {room : List ℕ} {n : ℕ} {room′ : List ℕ} {n′ : ℕ} → WellFormed b → Put room n Noted room′ n′ → Staged (told Noted (entriesOf b)) room n b room′ n′
+pub told-staged : (b : Book) {room : List ℕ} {n : ℕ} {room′ : List ℕ} {n′ : ℕ} → WellFormed b → Put room n Noted room′ n′ → Staged (reported Noted (entriesOf b)) room n b room′ n′
 told-staged b w p = record { book = book-of-entries b w; well = w; bytes = p .bytes; count = p .count }
 
 pub settle-open : {t : Terms} {b : Book} {room : List ℕ} {n : ℕ} → SettlesIf t b room n → t .phase ≡ 1 → (k : Market) → k ≡ marketOf t → Settleable k b room n
@@ -41,7 +41,7 @@ settle-open {t} {b} {room} {n} x p k q =
     (record { well = x .well; sound = x .sound; roomy = roomy-as (ap (λ (y : Ran (List Entry) Report). y .records) (settled-open t (entriesOf b) (eq-eqb (t .phase) 1 p))) (x .roomy) })
 
 module _ (s : Series) {check : Check} (a : Ask) (x : Acts s check a) {room : List ℕ} (space : 31920 ≤ length room) {b : Book} {room′ : List ℕ} {n′ : ℕ}
-    (first : Staged (own (s .terms) a (entriesOf (s .book))) room 0 b room′ n′) (t : Terms) (e : t ≡ termsAfter (s .terms) a) where
+    (first : Staged (ownPart (s .terms) a (entriesOf (s .book))) room 0 b room′ n′) (t : Terms) (e : t ≡ termsAfter (s .terms) a) where
   pub settles-next : SettlesIf t b room′ n′
   settles-next =
       subst (λ (y : Terms). SettlesIf y b room′ n′) (sym e)
@@ -55,17 +55,17 @@ module _ (s : Series) {check : Check} (a : Ask) (x : Acts s check a) {room : Lis
   pub accept-done : {after : Book} {room″ : List ℕ} {n″ : ℕ} → Staged (settledIf t (entriesOf b)) room′ n′ after room″ n″
       → (blocking : Bool) → blocking ≡ (quotes a && blocks (s .terms) (comer (s .terms .given) a) (entriesOf (s .book)))
       → (r : Series) → r ≡ record { terms = t; blocked = blockedBy blocking a (s .blocked); book = after }
-      → answered (record { refusal = 0; count = n″; series = r }) room″ ≡ accepted s a room
+      → inRoom (record { refusal = 0; count = n″; series = r }) room″ ≡ accepted s a room
   accept-done {after} {room″} {n″} second blocking k r q =
-      ap (λ (z : Series). answered (record { refusal = 0; count = n″; series = z }) room″) q
+      ap (λ (z : Series). inRoom (record { refusal = 0; count = n″; series = z }) room″) q
       ∙ accepted-answer s a
       (then-done s a (acts-accepted x) space first (subst (λ (y : Terms). Staged (settledIf y (entriesOf b)) room′ n′ after room″ n″) e second)) e (marked blocking k)
 
 module _ (s : Series) (a : Ask) (room : List ℕ) where
   pub judged-refused : (why : ℕ) → why ≡ refusalOf s a → (why ≡ 0 → ⊥) → (r : Answer) → r ≡ record { refusal = why; count = 0; series = s }
-      → answered r room ≡ judged s a room (refusalOf s a)
+      → inRoom r room ≡ judged s a room (refusalOf s a)
   judged-refused why w h r q =
-      ap (λ (z : Answer). answered z room) q ∙ ap (λ (z : ℕ). refused z s room) w
+      ap (λ (z : Answer). inRoom z room) q ∙ ap (λ (z : ℕ). refused z s room) w
       ∙ sym (ap (λ (y : Bool). cond y (accepted s a room) (refused (refusalOf s a) s room)) (ne-eqb (refusalOf s a) 0 (λ z. h (w ∙ z))))
 
   pub judged-accepted : refusalOf s a ≡ 0 → accepted s a room ≡ judged s a room (refusalOf s a)

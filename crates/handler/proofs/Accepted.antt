@@ -9,7 +9,7 @@ use native.Mathlib.Omega.{arith}
 use lib.Dec.{eqb}
 use lib.ListN.{length, length-append}
 use borrow.Author.Tests.{leb-true, eqb-true}
-use Rattle.prices.specs.Step.{mpv, given}
+use Rattle.prices.specs.Step.{mpv, noneOrLegal}
 use Rattle.lists.specs.Run.{Ran, still, andThen}
 use Rattle.lists.proofs.PlaceLaws.{length-none}
 use Rattle.packing.specs.declared.report.Report.{Report}
@@ -31,7 +31,7 @@ use Rattle.settling_theory.proofs.Settles.{settles, settles-few}
 use Rattle.terms.specs.declared.Terms.{Terms}
 use Rattle.terms.specs.Terms.{marketOf}
 use Rattle.arrival.specs.Cancel.{swept, cancelEntry, cancelQuote, sweep}
-use Rattle.arrival.specs.Arrive.{told, arrived}
+use Rattle.arrival.specs.Arrive.{reported, arrived}
 use Rattle.arrival.proofs.ArriveKeeps.{arrives, own-few}
 use Rattle.arrival.proofs.CutLaws.{quote-length, quote-few, quote-all, cut-all, cancel-entry-sound, cancel-entry-packs, cancel-entry-few, cancel-entry-length, cancel-quote-sound, cancel-quote-packs}
 use Rattle.arrival.proofs.SweepLaws.{spared, sweep-sound, sweep-packs, sweep-few, sweep-leaves, sweep-closed, sweep-halted}
@@ -42,7 +42,7 @@ use Rattle.series.proofs.TermsLaws.{phase-open}
 use Rattle.series.proofs.SeriesFacts.{terms-market, facts-series}
 use Rattle.handler.specs.declared.Ask.{Ask}
 use Rattle.handler.specs.Asked.{askOf, enters}
-use Rattle.handler.specs.Accept.{comer, own, termsAfter, blockedAfter, settledIf, done, seriesAfter}
+use Rattle.handler.specs.Accept.{comer, ownPart, termsAfter, blockedAfter, settledIf, done, seriesAfter}
 use Rattle.handler.proofs.Passed.{Accepted, accepts, facts, enters-open, accepted-arriving, terms-legal, numbers-few}
 use Rattle.handler.proofs.Ways.{Accepting, accepting, handled-accepted}
 use Rattle.handler.specs.Handle.{handled}
@@ -69,7 +69,7 @@ module _ (m top phase : ℕ) (l : List Entry) (step : mpv m ≡ true) (low : top
   so : Sound m top l
   so = is-sound m top l step entries
 
-  noted-part : SoundPhase phase l → Part m top phase 72 (told Noted l)
+  noted-part : SoundPhase phase l → Part m top phase 72 (reported Noted l)
   noted-part f = record { sound = entries; size = size; rests = f; fit = (noted-packs, tt); few = omega arith }
 
   entry-part : (party number : ℕ) → SoundPhase phase l → Part m top phase 72 (cancelEntry party number l)
@@ -97,7 +97,7 @@ module _ (m top phase : ℕ) (l : List Entry) (step : mpv m ≡ true) (low : top
   }
 
   -- "Phase: noted, then 31s by entry.": closing leaves nothing, halting no quote
-  phase-part : Part m top phase 72 (andThen (told Noted l) (sweep phase))
+  phase-part : Part m top phase 72 (andThen (reported Noted l) (sweep phase))
   phase-part = record {
     sound = sound-is m top (sweep-sound phase l so);
     size = omega (arith, ap length (sweep-leaves phase l), spared-length (swept phase) l);
@@ -113,8 +113,8 @@ module _ (m top phase : ℕ) (l : List Entry) (step : mpv m ≡ true) (low : top
 
 module _ (s : Series) (a : Ask) (ok : Accepted s a) where
   -- THE MESSAGE'S OWN PART
-  pub own-part : Part (termsAfter (s .terms) a .m) (termsAfter (s .terms) a .given) (termsAfter (s .terms) a .phase) 72 (own (s .terms) a (entriesOf (s .book)))
-  unfolding own termsAfter
+  pub own-part : Part (termsAfter (s .terms) a .m) (termsAfter (s .terms) a .given) (termsAfter (s .terms) a .phase) 72 (ownPart (s .terms) a (entriesOf (s .book)))
+  unfolding ownPart termsAfter
   own-part = go (enters a) refl (eqb (a .kind) 7) refl (eqb (a .kind) 8) refl (eqb (a .kind) 11) refl
     where
       t : Terms
@@ -130,7 +130,7 @@ module _ (s : Series) (a : Ask) (ok : Accepted s a) where
           → Part (t .m) (cond b (t .given + 1) (t .given)) (cond b₁₁ (a .quantity) (t .phase)) 72
           (cond b (arrived t e l)
           (cond b₇ (cancelEntry (a .party) (a .entry) l)
-          (cond b₈ (cancelQuote (a .party) (a .sell) l) (cond b₁₁ (andThen (told Noted l) (sweep (a .quantity))) (told Noted l)))))
+          (cond b₈ (cancelQuote (a .party) (a .sell) l) (cond b₁₁ (andThen (reported Noted l) (sweep (a .quantity))) (reported Noted l)))))
       go true q b₇ q₇ b₈ q₈ true q₁₁ = absurd (omega (arith, leb-true (a .kind) 6 q, eqb-true (a .kind) 11 q₁₁))
       go true q b₇ q₇ b₈ q₈ false q₁₁ =
           let r = arrives (accepted-arriving s a ok q) in
@@ -149,12 +149,12 @@ module _ (s : Series) (a : Ask) (ok : Accepted s a) where
           noted-part (t .m) (t .given) (t .phase) l (facts s a ok .step) (facts s a ok .sound .most) (facts s a ok .entries) (facts s a ok .size) (facts s a ok .sound .phase)
 
   -- which settling finds sound
-  abbrev pub own-sound : SoundFor (marketOf (termsAfter (s .terms) a)) (own (s .terms) a (entriesOf (s .book)) .final)
+  abbrev pub own-sound : SoundFor (marketOf (termsAfter (s .terms) a)) (ownPart (s .terms) a (entriesOf (s .book)) .final)
   own-sound = record { top = termsAfter (s .terms) a .given; market = terms-market (termsAfter (s .terms) a) (terms-legal s a ok); entries = own-part .sound }
 
   -- SETTLING BEHIND IT, in an open series; in any other nothing is done
   pub settle-part : Part (termsAfter (s .terms) a .m) (termsAfter (s .terms) a .given) (termsAfter (s .terms) a .phase) 2208
-      (settledIf (termsAfter (s .terms) a) (own (s .terms) a (entriesOf (s .book)) .final))
+      (settledIf (termsAfter (s .terms) a) (ownPart (s .terms) a (entriesOf (s .book)) .final))
   unfolding still
   settle-part = go (eqb (termsAfter (s .terms) a .phase) 1) refl
     where
@@ -162,7 +162,7 @@ module _ (s : Series) (a : Ask) (ok : Accepted s a) where
       t′ = termsAfter (s .terms) a
 
       l′ : List Entry
-      l′ = own (s .terms) a (entriesOf (s .book)) .final
+      l′ = ownPart (s .terms) a (entriesOf (s .book)) .final
 
       go : (b : Bool) → eqb (t′ .phase) 1 ≡ b → Part (t′ .m) (t′ .given) (t′ .phase) 2208 (cond b (settled (marketOf t′) l′) (still l′))
       go true q = record {
@@ -187,10 +187,10 @@ module _ (s : Series) (a : Ask) (ok : Accepted s a) where
   }
     where
       first : List Report
-      first = own (s .terms) a (entriesOf (s .book)) .records
+      first = ownPart (s .terms) a (entriesOf (s .book)) .records
 
       then : List Report
-      then = settledIf (termsAfter (s .terms) a) (own (s .terms) a (entriesOf (s .book)) .final) .records
+      then = settledIf (termsAfter (s .terms) a) (ownPart (s .terms) a (entriesOf (s .book)) .final) .records
 
   -- ACCEPTED MESSAGES GIVE ONLY SOUND STATES
   pub after-sound : soundSeries (seriesAfter s a) ≡ true
@@ -205,7 +205,7 @@ module _ (s : Series) (a : Ask) (ok : Accepted s a) where
     pub accepted-room : Roomy room 0 (done (s .terms) a (entriesOf (s .book)) .records)
     accepted-room = record { space = omega (arith, done-part .few); fit = done-part .fit }
 
-    pub own-room : Roomy room 0 (own (s .terms) a (entriesOf (s .book)) .records)
+    pub own-room : Roomy room 0 (ownPart (s .terms) a (entriesOf (s .book)) .records)
     own-room = record { space = omega (arith, own-part .few); fit = own-part .fit }
 
 -- ACCEPTED MESSAGES GIVE ONLY SOUND STATES, whatever is handed in

@@ -31,7 +31,7 @@ use Rattle.series.specs.declared.Series.{Series}
 use Rattle.series.specs.Series.{soundSeries}
 use Rattle.handler.specs.declared.Ask.{Ask}
 use Rattle.handler.specs.Asked.{askOf}
-use Rattle.handler.specs.Accept.{own, termsAfter, settledIf, done, seriesAfter}
+use Rattle.handler.specs.Accept.{ownPart, termsAfter, settledIf, done, seriesAfter}
 use Rattle.handler.specs.Handle.{Handled, refused, accepted, handled, handledAt}
 use Rattle.handler.proofs.Ways.{Accepting, accepting, handled-nothing, handled-accepted}
 use Rattle.handler.proofs.Passed.{Accepted, accepts}
@@ -41,7 +41,7 @@ use Rattle.handler.proofs.Accepted.{own-sound, done-part}
 
 -- its own part, and settling behind it
 abbrev pub ownOf : Series → Ask → Ran (List Entry) Report
-ownOf s a = own (s .terms) a (entriesOf (s .book))
+ownOf s a = ownPart (s .terms) a (entriesOf (s .book))
 
 abbrev pub settlingOf : Series → Ask → Ran (List Entry) Report
 settlingOf s a = settledIf (termsAfter (s .terms) a) (ownOf s a .final)
@@ -113,7 +113,7 @@ pub record Demand3 (s : Series) (a : Ask) (h : Handled) : Type 0 where
   -- from the entries that it finds to those at which there is none
   pub whole : h .answer .series .terms .phase ≡ 1 → WholeRuns (marketOf (h .answer .series .terms)) (ownOf s a .final) (settlingOf s a)
   -- afterwards no entry is marketable, off its resting prices, or to be eased
-  pub calm : h .answer .series .terms .phase ≡ 1 → (i : ℕ) (x : Entry) → At (entriesOf (h .answer .series .book)) i x
+  pub unstirred : h .answer .series .terms .phase ≡ 1 → (i : ℕ) (x : Entry) → At (entriesOf (h .answer .series .book)) i x
       → stirring (marketOf (h .answer .series .terms)) (entriesOf (h .answer .series .book)) x ≡ false
   pub uneased : h .answer .series .terms .phase ≡ 1 → (i : ℕ) (x : Entry) → At (entriesOf (h .answer .series .book)) i x
       → easing (marketOf (h .answer .series .terms)) x ≡ false
@@ -144,7 +144,7 @@ module _ (s : Series) (a : Ask) (acc : Accepted s a) (room : List ℕ) where
     entries = entries-of-book (settlingOf s a .final);
     shut = λ p. rw (ne-eqb (termsAfter (s .terms) a .phase) 1 p);
     whole = λ p. subst (WholeRuns (marketOf (termsAfter (s .terms) a)) (ownOf s a .final)) (sym (open-settled p)) both-runs;
-    calm = λ p. subst (λ (l : List Entry). (i : ℕ) (x : Entry) → At l i x → stirring (marketOf (termsAfter (s .terms) a)) l x ≡ false) (left p) (after .calm);
+    unstirred = λ p. subst (λ (l : List Entry). (i : ℕ) (x : Entry) → At l i x → stirring (marketOf (termsAfter (s .terms) a)) l x ≡ false) (left p) (after .unstirred);
     uneased = λ p. subst (λ (l : List Entry). (i : ℕ) (x : Entry) → At l i x → easing (marketOf (termsAfter (s .terms) a)) x ≡ false) (left p) (after .uneased);
     stirs-no-more = λ p. subst (λ (l : List Entry). nextStir (marketOf (termsAfter (s .terms) a)) l ≡ stop) (left p) (after .stirs-no-more);
     eases-no-more = λ p. subst (λ (l : List Entry). nextEase (marketOf (termsAfter (s .terms) a)) l ≡ stop) (left p) (after .eases-no-more);

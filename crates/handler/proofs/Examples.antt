@@ -14,13 +14,13 @@ use Rattle.lists.specs.Tests.{all, any, pairs, All}
 use Rattle.lists.specs.Choose.{scan, first}
 use Rattle.lists.specs.Run.{still, leading, runFor, ran}
 use Rattle.packing.specs.Codec.{thingOf, unpackOf}
-use Rattle.packing.specs.Message.{kinds, messages}
+use Rattle.packing.specs.Message.{byKind, messages}
 use Rattle.prices.specs.Side.{keen, meek, reaches, nearer}
-use Rattle.prices.specs.Step.{mpv, onGrid, legal, given, back, lastPrice, pastLast, apart, allowed}
+use Rattle.prices.specs.Step.{mpv, onGrid, legal, noneOrLegal, back, lastPrice, pastLast, apart, allowed}
 use Rattle.prices.specs.Aims.{sliding, minds, minded, upTo, shortOf, aimDisplay, aimWorking}
 use Rattle.prices.specs.Post.{stopped}
 use Rattle.prices.specs.Protect.{figures24, limited24, protection}
-use Rattle.prices.specs.Rest.{marketable, resting, atRest, restless, slides}
+use Rattle.prices.specs.Rest.{marketable, restingPrices, atRest, stirsAt, slides}
 use Rattle.prices.specs.Ease.{easedTo, eases}
 use Rattle.book.specs.Shape.{entriesOf, bookOf}
 use Rattle.book.specs.Change.{hit, hitBoth}
@@ -33,7 +33,7 @@ use Rattle.arrival.specs.Post.{stopFor}
 use Rattle.arrival.specs.Arrive.{rejectedBy, entered, stopsAtOnce, protectionFor, rejection, arrived}
 use Rattle.series.specs.Series.{soundTerms, soundPhase, soundSeries}
 use Rattle.handler.specs.Refuse.{refusalOf}
-use Rattle.handler.specs.Accept.{own, termsAfter, done, comer}
+use Rattle.handler.specs.Accept.{ownPart, termsAfter, done, comer}
 use Rattle.packing.specs.declared.message.Event.{Event}
 use Rattle.packing.specs.declared.report.Report.{Report}
 use Rattle.packing.specs.declared.report.Report.the-variants.{Rejected, Traded, Rested, Cancelled}
@@ -289,7 +289,7 @@ expected r = record { sound = true; refusal = 0; barred = r .barred; reports = r
 
 -- THE THEOREM: every row of the table comes out as document 01 says
 pub examples : map outcome table ≡ map expected table
-unfolding without all any pairs scan first still leading runFor ran thingOf unpackOf kinds keen meek reaches nearer mpv onGrid legal given back lastPrice pastLast apart allowed sliding minds minded upTo shortOf aimDisplay aimWorking stopped figures24 limited24 protection marketable resting atRest restless slides easedTo eases entriesOf bookOf hit hitBoth cost priority bestContra nearest hiddenWithin quoteIn lowest pricedAs soundEntry soundPair soundEntries soundBook nextEase easings nextStir stirrings eased stirred settled cut nextTake chances taken took stopFor rejectedBy entered stopsAtOnce protectionFor rejection arrived soundTerms soundPhase soundSeries refusalOf own termsAfter done
+unfolding without all any pairs scan first still leading runFor ran thingOf unpackOf byKind keen meek reaches nearer mpv onGrid legal noneOrLegal back lastPrice pastLast apart allowed sliding minds minded upTo shortOf aimDisplay aimWorking stopped figures24 limited24 protection marketable restingPrices atRest stirsAt slides easedTo eases entriesOf bookOf hit hitBoth cost priority bestContra nearest hiddenWithin quoteIn lowest pricedAs soundEntry soundPair soundEntries soundBook nextEase easings nextStir stirrings eased stirred settled cut nextTake chances taken took stopFor rejectedBy entered stopsAtOnce protectionFor rejection arrived soundTerms soundPhase soundSeries refusalOf ownPart termsAfter done
 examples = refl
 
 -- ---- so the handler answers, in any room that is large enough ----

@@ -37,7 +37,7 @@ use Rattle.terms.specs.declared.Terms.{Terms}
 use Rattle.terms.specs.Terms.{marketOf}
 use Rattle.arrival.specs.Cancel.{cancelEntry, cancelQuote, sweep}
 use Rattle.arrival.specs.Post.{resting}
-use Rattle.arrival.specs.Arrive.{told, arrived}
+use Rattle.arrival.specs.Arrive.{reported, arrived}
 use Rattle.arrival.proofs.ArriveTells.{arrived-says}
 use Rattle.arrival.proofs.Within.{arrival-within-away}
 use Rattle.arrival.proofs.CutLaws.{cut-all, quote-all}
@@ -47,7 +47,7 @@ use Rattle.arrival.proofs.Afterwards.{arrived-all, cut-says, sweep-says}
 use Rattle.series.specs.declared.Series.{Series}
 use Rattle.handler.specs.declared.Ask.{Ask}
 use Rattle.handler.specs.Asked.{enters}
-use Rattle.handler.specs.Accept.{comer, own, termsAfter, settledIf, done}
+use Rattle.handler.specs.Accept.{comer, ownPart, termsAfter, settledIf, done}
 use Rattle.series.proofs.TermsLaws.{step-mpv}
 use Rattle.handler.proofs.Passed.{Accepted, facts, terms-legal}
 use Rattle.handler.proofs.Accepted.{own-sound, done-part}
@@ -67,33 +67,33 @@ module _ (s : Series) (a : Ask) where
 
   -- who rests after it
   own-all : (P : Entry → Type 0) → ((q : ℕ) (x : Entry) → P x → P (lessened q x)) → (enters a ≡ true → (left : ℕ) (p : Prices) → P (resting (comer (s .terms .given) a) left p))
-      → All P (entriesOf (s .book)) → All P (own (s .terms) a (entriesOf (s .book)) .final)
-  unfolding own
+      → All P (entriesOf (s .book)) → All P (ownPart (s .terms) a (entriesOf (s .book)) .final)
+  unfolding ownPart
   own-all P lessens posts h =
       cond-either Rested (enters a) (arrived t (comer (t .given) a) l) _ (λ q. arrived-all t (comer (t .given) a) l P (λ n x k p. lessens n x p) (posts q) h)
       (λ _. cond-either Rested (eqb (a .kind) 7) (cancelEntry (a .party) (a .entry) l) _ (λ _. cut-all 28 l P (entryOf (a .party) (a .entry) l) h)
       (λ _. cond-either Rested (eqb (a .kind) 8) (cancelQuote (a .party) (a .sell) l) _ (λ _. quote-all 28 (a .party) (a .sell) l P h)
-      (λ _. cond-either Rested (eqb (a .kind) 11) (andThen (told Noted l) (sweep (a .quantity))) (told Noted l) (λ _. sweep-all (a .quantity) l P h) (λ _. h))))
+      (λ _. cond-either Rested (eqb (a .kind) 11) (andThen (reported Noted l) (sweep (a .quantity))) (reported Noted l) (λ _. sweep-all (a .quantity) l P h) (λ _. h))))
     where
       Rested : Ran (List Entry) Report → Type 0
       Rested x = All P (x .final)
 
   -- what its reports say: what those of an arrival do, and a note, and what is cancelled
   own-says : (P : Report → Type 0) → (enters a ≡ true → All P (arrived (s .terms) (comer (s .terms .given) a) (entriesOf (s .book)) .records))
-      → P Noted → ((why : ℕ) (x : Entry) → P (cancelled why x)) → All P (own (s .terms) a (entriesOf (s .book)) .records)
-  unfolding own
+      → P Noted → ((why : ℕ) (x : Entry) → P (cancelled why x)) → All P (ownPart (s .terms) a (entriesOf (s .book)) .records)
+  unfolding ownPart
   own-says P arrives noted gone =
       cond-either Says (enters a) (arrived t (comer (t .given) a) l) _ arrives
       (λ _. cond-either Says (eqb (a .kind) 7) (cancelEntry (a .party) (a .entry) l) _ (λ _. cut-says l P gone 28 (entryOf (a .party) (a .entry) l))
       (λ _. cond-either Says (eqb (a .kind) 8) (cancelQuote (a .party) (a .sell) l) _ (λ _. cut-says l P gone 28 (quoteIn (a .party) (a .sell) l))
-      (λ _. cond-either Says (eqb (a .kind) 11) (andThen (told Noted l) (sweep (a .quantity))) (told Noted l)
+      (λ _. cond-either Says (eqb (a .kind) 11) (andThen (reported Noted l) (sweep (a .quantity))) (reported Noted l)
       (λ _. (noted, sweep-says l P gone (a .quantity))) (λ _. (noted, tt)))))
     where
       Says : Ran (List Entry) Report → Type 0
       Says x = All P (x .records)
 
   -- who takes in it: the arriving entry alone, and no MMALO
-  own-spares : (n : ℕ) → 1 ≤ n → (enters a ≡ true → Minding n (comer (s .terms .given) a)) → All (NotTaker n) (own (s .terms) a (entriesOf (s .book)) .records)
+  own-spares : (n : ℕ) → 1 ≤ n → (enters a ≡ true → Minding n (comer (s .terms .given) a)) → All (NotTaker n) (ownPart (s .terms) a (entriesOf (s .book)) .records)
   own-spares n some m =
       own-says (NotTaker n)
       (λ q. arrived-says t (comer (t .given) a) l (NotTaker n) (record {
@@ -111,15 +111,15 @@ module _ (s : Series) (a : Ask) where
     -- ---- "Sliding a display back when the away price falls" ----
 
     -- what rests at the end was there after the message's own part,
-    settled-stems : All (Stems (own (s .terms) a (entriesOf (s .book)) .final)) (done (s .terms) a (entriesOf (s .book)) .final)
+    settled-stems : All (Stems (ownPart (s .terms) a (entriesOf (s .book)) .final)) (done (s .terms) a (entriesOf (s .book)) .final)
     unfolding done still
     settled-stems =
-        let r : List Entry = own t a l .final in
+        let r : List Entry = ownPart t a l .final in
         cond-either (λ (x : Ran (List Entry) Report). All (Stems r) (x .final)) (eqb (termsAfter t a .phase) 1) (settled (marketOf (termsAfter t a)) r) (still r)
         (λ _. settles (own-sound s a ok) .stems) (λ _. stems-start r)
 
     -- and then it is the new entry, or was there before
-    own-stems : All (λ (x : Entry). (x .number ≡ s .terms .given + 1) ⊎ Stems (entriesOf (s .book)) x) (own (s .terms) a (entriesOf (s .book)) .final)
+    own-stems : All (λ (x : Entry). (x .number ≡ s .terms .given + 1) ⊎ Stems (entriesOf (s .book)) x) (ownPart (s .terms) a (entriesOf (s .book)) .final)
     own-stems =
         own-all (λ (x : Entry). (x .number ≡ t .given + 1) ⊎ Stems l x) (λ q x. ⊎-elim (λ z. inl z) (λ u. inr (stems-lessened q x u))) (λ _ left p. inl refl)
         (all-map (λ x u. inr u) l (stems-start l))
@@ -131,9 +131,9 @@ module _ (s : Series) (a : Ask) where
     pub display-never-back : (i j : ℕ) (y x : Entry) → At (entriesOf (s .book)) i y → At (done (s .terms) a (entriesOf (s .book)) .final) j x → y .number ≡ x .number
         → reaches (y .sell) (display x) (display y) ≡ true
     display-never-back i j y x at there same =
-        let u : Stems (own t a l .final) x = all-at (Stems (own t a l .final)) (done t a l .final) j x settled-stems there in
+        let u : Stems (ownPart t a l .final) x = all-at (Stems (ownPart t a l .final)) (done t a l .final) j x settled-stems there in
         ⊎-elim (λ z. absurd (omega (arith, here-facts so i y at .given, same, u .number, z))) (λ v. forward (stems-through x u v))
-        (all-at (λ (z : Entry). (z .number ≡ t .given + 1) ⊎ Stems l z) (own t a l .final) (u .place) (u .was) own-stems (u .there))
+        (all-at (λ (z : Entry). (z .number ≡ t .given + 1) ⊎ Stems l z) (ownPart t a l .final) (u .place) (u .was) own-stems (u .there))
       where
         forward : Stems l x → reaches (y .sell) (display x) (display y) ≡ true
         forward v =
@@ -150,8 +150,8 @@ module _ (s : Series) (a : Ask) where
         → All (NotTaker n) (done (s .terms) a (entriesOf (s .book)) .records)
     unfolding done still
     spares n some h m =
-        let r : List Entry = own t a l .final in
-        all-append (NotTaker n) (own t a l .records) (settledIf (termsAfter t a) r .records) (own-spares n some m)
+        let r : List Entry = ownPart t a l .final in
+        all-append (NotTaker n) (ownPart t a l .records) (settledIf (termsAfter t a) r .records) (own-spares n some m)
         (cond-either (λ (x : Ran (List Entry) Report). All (NotTaker n) (x .records)) (eqb (termsAfter t a .phase) 1) (settled (marketOf (termsAfter t a)) r) (still r)
         (λ _. settles (own-sound s a ok) .spared n some (own-all (Minding n) (λ q x z. z) (λ q left p. m q) h)) (λ _. tt))
 
@@ -181,8 +181,8 @@ module _ (s : Series) (a : Ask) where
     unfolding done still
     trades-within-away =
         let k : Market = marketOf (termsAfter t a) in
-        let r : List Entry = own t a l .final in
-        all-append (TradesWithin k) (own t a l .records) (settledIf (termsAfter t a) r .records)
+        let r : List Entry = ownPart t a l .final in
+        all-append (TradesWithin k) (ownPart t a l .records) (settledIf (termsAfter t a) r .records)
         (own-says (TradesWithin k) (λ q. rw (same-market q) (arrival-within-away t (comer (t .given) a) l)) tt (λ why x. tt))
         (cond-either (λ (x : Ran (List Entry) Report). All (TradesWithin k) (x .records)) (eqb (termsAfter t a .phase) 1) (settled k r) (still r)
         (λ _. settles (own-sound s a ok) .within) (λ _. tt))

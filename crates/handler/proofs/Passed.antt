@@ -8,7 +8,7 @@ use native.Mathlib.Omega.{arith}
 use lib.Dec.{eqb, leb}
 use lib.ListN.{length}
 use borrow.Author.Tests.{leb-true, leb-false, le-leb, eqb-true, not-false}
-use Rattle.prices.specs.Step.{legal, given}
+use Rattle.prices.specs.Step.{legal, noneOrLegal}
 use Rattle.lists.specs.Tests.{any}
 use Rattle.lists.specs.Choose.{Found, nowhere, found}
 use Rattle.lists.specs.Run.{still}
@@ -182,15 +182,15 @@ module _ (s : Series) (a : Ask) (ok : Accepted s a) where
     phase = cond-either (λ (n : ℕ). n ≤ 2) (eqb (a .kind) 11) (a .quantity) (s .terms .phase)
         (λ q. leb-true (a .quantity) 2 (not-false (leb (a .quantity) 2) (rw (eqb-true (a .kind) 11 q) at (tests .quantity)))) (λ q. facts .sound .terms .phase);
     bid = cond-either (λ (n : ℕ). NoneOrLegal (s .terms .m) n) (eqb (a .kind) 9) (a .price) (s .terms .bid)
-        (λ q. given-price (s .terms .m) (a .price) (and-left (given (s .terms .m) (a .price)) (given (s .terms .m) (a .second)) (aways q))) (λ q. facts .sound .terms .bid);
+        (λ q. given-price (s .terms .m) (a .price) (and-left (noneOrLegal (s .terms .m) (a .price)) (noneOrLegal (s .terms .m) (a .second)) (aways q))) (λ q. facts .sound .terms .bid);
     offer = cond-either (λ (n : ℕ). NoneOrLegal (s .terms .m) n) (eqb (a .kind) 9) (a .second) (s .terms .offer)
-        (λ q. given-price (s .terms .m) (a .second) (and-right (given (s .terms .m) (a .price)) (given (s .terms .m) (a .second)) (aways q))) (λ q. facts .sound .terms .offer);
+        (λ q. given-price (s .terms .m) (a .second) (and-right (noneOrLegal (s .terms .m) (a .price)) (noneOrLegal (s .terms .m) (a .second)) (aways q))) (λ q. facts .sound .terms .offer);
     underlying = cond-either (λ (n : ℕ). n ≤ 100000) (eqb (a .kind) 10) (a .price) (s .terms .underlying)
         (λ q. leb-true (a .price) 100000 (not-false (leb (a .price) 100000) (rw (eqb-true (a .kind) 10 q) at (tests .price)))) (λ q. facts .sound .terms .underlying);
   }
     where
-      aways : eqb (a .kind) 9 ≡ true → (given (s .terms .m) (a .price) && given (s .terms .m) (a .second)) ≡ true
-      aways q = not-false (given (s .terms .m) (a .price) && given (s .terms .m) (a .second)) (rw (eqb-true (a .kind) 9 q) at (tests .price))
+      aways : eqb (a .kind) 9 ≡ true → (noneOrLegal (s .terms .m) (a .price) && noneOrLegal (s .terms .m) (a .second)) ≡ true
+      aways q = not-false (noneOrLegal (s .terms .m) (a .price) && noneOrLegal (s .terms .m) (a .second)) (rw (eqb-true (a .kind) 9 q) at (tests .price))
 
   pub numbers-few : termsAfter (s .terms) a .given ≤ 1000000
   unfolding termsAfter

@@ -19,12 +19,12 @@ use Rattle.settling_theory.specs.Settle.{settled}
 use Rattle.terms.specs.declared.Terms.{Terms}
 use Rattle.terms.specs.Terms.{marketOf}
 use Rattle.arrival.specs.Cancel.{cancelEntry, cancelQuote, sweep}
-use Rattle.arrival.specs.Arrive.{told, arrived}
+use Rattle.arrival.specs.Arrive.{reported, arrived}
 use Rattle.telling.proofs.StageLaws.{staged-list, staged-then, staged-room}
 use Rattle.series.specs.declared.Series.{Series}
 use Rattle.handler.specs.declared.Ask.{Ask}
 use Rattle.handler.specs.Asked.{enters}
-use Rattle.handler.specs.Accept.{comer, own, termsAfter, blockedAfter, settledIf, done}
+use Rattle.handler.specs.Accept.{comer, ownPart, termsAfter, blockedAfter, settledIf, done}
 use Rattle.handler.specs.Handle.{Handled, accepted}
 use Rattle.handler.proofs.Passed.{Accepted}
 use Rattle.handler.proofs.Accepted.{own-sound, accepted-room}
@@ -32,24 +32,24 @@ use Rattle.handler.proofs.Accepted.{own-sound, accepted-room}
 -- ---- which stage the message's own part is ----
 
 module _ (t : Terms) (a : Ask) (l : List Entry) where
-  pub own-enters : enters a ≡ true → own t a l ≡ arrived t (comer (t .given) a) l
-  unfolding own
+  pub own-enters : enters a ≡ true → ownPart t a l ≡ arrived t (comer (t .given) a) l
+  unfolding ownPart
   own-enters q = rw q
 
-  pub own-entry : a .kind ≡ 7 → own t a l ≡ cancelEntry (a .party) (a .entry) l
-  unfolding own
+  pub own-entry : a .kind ≡ 7 → ownPart t a l ≡ cancelEntry (a .party) (a .entry) l
+  unfolding ownPart
   own-entry q = rw q
 
-  pub own-quote : a .kind ≡ 8 → own t a l ≡ cancelQuote (a .party) (a .sell) l
-  unfolding own
+  pub own-quote : a .kind ≡ 8 → ownPart t a l ≡ cancelQuote (a .party) (a .sell) l
+  unfolding ownPart
   own-quote q = rw q
 
-  pub own-phase : a .kind ≡ 11 → own t a l ≡ andThen (told Noted l) (sweep (a .quantity))
-  unfolding own
+  pub own-phase : a .kind ≡ 11 → ownPart t a l ≡ andThen (reported Noted l) (sweep (a .quantity))
+  unfolding ownPart
   own-phase q = rw q
 
-  pub own-noted : enters a ≡ false → eqb (a .kind) 7 ≡ false → eqb (a .kind) 8 ≡ false → eqb (a .kind) 11 ≡ false → own t a l ≡ told Noted l
-  unfolding own
+  pub own-noted : enters a ≡ false → eqb (a .kind) 7 ≡ false → eqb (a .kind) 8 ≡ false → eqb (a .kind) 11 ≡ false → ownPart t a l ≡ reported Noted l
+  unfolding ownPart
   own-noted q q₇ q₈ q₁₁ = rw (q, q₇, q₈, q₁₁)
 
 -- "After every accepted message in an open series."
@@ -63,7 +63,7 @@ module _ (t : Terms) (l : List Entry) where
 -- ---- behind the message's own part ----
 
 module _ (s : Series) (a : Ask) (ok : Accepted s a) {room : List ℕ} (space : 31920 ≤ length room) {b : Book} {room′ : List ℕ} {n′ : ℕ}
-    (first : Staged (own (s .terms) a (entriesOf (s .book))) room 0 b room′ n′) where
+    (first : Staged (ownPart (s .terms) a (entriesOf (s .book))) room 0 b room′ n′) where
   -- the book that it left is sound for settling
   pub then-sound : SoundFor (marketOf (termsAfter (s .terms) a)) (entriesOf b)
   then-sound = subst (SoundFor (marketOf (termsAfter (s .terms) a))) (sym (staged-list first)) (own-sound s a ok)

@@ -19,7 +19,7 @@ use Rattle.handler.specs.declared.Answer.{Answer}
 use Rattle.handler.specs.Asked.{askOf}
 use Rattle.handler.specs.Refuse.{refusalOf}
 use Rattle.handler.specs.Acts.{Admits}
-use Rattle.handler.specs.Handle.{firstOf, beforeReading, answered, refused, refusedOr, accepted, judged, heard, handled}
+use Rattle.handler.specs.Handle.{firstOf, beforeReading, inRoom, refused, refusedOr, accepted, judged, heard, handled}
 
 module _ (s : Series) (message room : List ℕ) where
   module _ (space : 31920 ≤ length room) where
@@ -63,10 +63,10 @@ none-early space sound h = by (ltb space 31920) refl sound refl h
 
 -- what the code returns, once 10 and 11 are tested
 module _ (s : Series) (message room : List ℕ) (why : ℕ) {check : Check} (admits : Admits s (length room) why check) where
-  pub returns-early : (why ≡ 0 → ⊥) → (r : Answer) → r ≡ record { refusal = why; count = 0; series = s } → answered r room ≡ handled s message room
+  pub returns-early : (why ≡ 0 → ⊥) → (r : Answer) → r ≡ record { refusal = why; count = 0; series = s } → inRoom r room ≡ handled s message room
   returns-early h r q =
       let n : why ≡ beforeReading (length room) (soundSeries s) = admits .number in
-      ap (λ (z : Answer). answered z room) q ∙ ap (λ (k : ℕ). refused k s room) n
+      ap (λ (z : Answer). inRoom z room) q ∙ ap (λ (k : ℕ). refused k s room) n
       ∙ sym (refused-early s message room (λ z. h (n ∙ z)))
 
   module _ (h : why ≡ 0) where
@@ -77,8 +77,8 @@ module _ (s : Series) (message room : List ℕ) (why : ℕ) {check : Check} (adm
     admits-space = roomy-sound .0
 
     pub returns-unread : unpackOf messages message ≡ none → (r : Answer) → r ≡ record { refusal = 1; count = 0; series = s }
-        → answered r room ≡ handled s message room
-    returns-unread u r q = ap (λ (z : Answer). answered z room) q ∙ sym (handled-nothing s message room (roomy-sound .0) (roomy-sound .1) u)
+        → inRoom r room ≡ handled s message room
+    returns-unread u r q = ap (λ (z : Answer). inRoom z room) q ∙ sym (handled-nothing s message room (roomy-sound .0) (roomy-sound .1) u)
 
     pub returns-judged : (e : Event) → unpackOf messages message ≡ some e → judged s (askOf e) room (refusalOf s (askOf e)) ≡ handled s message room
     returns-judged e u = sym (handled-judged s message room (roomy-sound .0) (roomy-sound .1) e u)

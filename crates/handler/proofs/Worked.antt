@@ -12,26 +12,26 @@ use Rattle.lists.specs.Tests.{all, any, pairs}
 use Rattle.lists.specs.Choose.{scan, first}
 use Rattle.lists.specs.Run.{still, leading, runFor, ran}
 use Rattle.packing.specs.Codec.{thingOf, unpackOf}
-use Rattle.packing.specs.Message.{kinds, messages}
+use Rattle.packing.specs.Message.{byKind, messages}
 use Rattle.prices.specs.Side.{keen, meek, reaches, nearer}
-use Rattle.prices.specs.Step.{mpv, onGrid, legal, given, back, lastPrice, pastLast, apart, allowed}
+use Rattle.prices.specs.Step.{mpv, onGrid, legal, noneOrLegal, back, lastPrice, pastLast, apart, allowed}
 use Rattle.prices.specs.Aims.{sliding, minds, minded, upTo, shortOf, aimDisplay, aimWorking}
 use Rattle.prices.specs.Post.{stopped}
 use Rattle.prices.specs.Protect.{figures24, limited24, protection}
-use Rattle.prices.specs.Rest.{marketable, resting, atRest, restless, slides}
+use Rattle.prices.specs.Rest.{marketable, restingPrices, atRest, stirsAt, slides}
 use Rattle.prices.specs.Ease.{easedTo, eases}
 use Rattle.book.specs.Shape.{entriesOf, bookOf}
 use Rattle.book.specs.Change.{hit, hitBoth}
 use Rattle.book.specs.Look.{cost, priority, bestContra, nearest, hiddenWithin, quoteIn, lowest}
 use Rattle.soundness_theory.specs.Sound.{pricedAs, soundEntry, soundPair, soundEntries, soundBook}
-use Rattle.settling_theory.specs.Settle.{stirs, nextEase, easings, nextStir, stirrings, eased, stirred, settled, stirring}
+use Rattle.settling_theory.specs.Settle.{anyStirs, nextEase, easings, nextStir, stirrings, eased, stirred, settled, stirring}
 use Rattle.arrival.specs.Cancel.{cut}
 use Rattle.arrival.specs.Take.{nextTake, chances, taken, took}
 use Rattle.arrival.specs.Post.{stopFor}
 use Rattle.arrival.specs.Arrive.{rejectedBy, entered, stopsAtOnce, protectionFor, rejection, arrived}
 use Rattle.series.specs.Series.{soundTerms, soundPhase, soundSeries}
 use Rattle.handler.specs.Refuse.{refusalOf}
-use Rattle.handler.specs.Accept.{own, termsAfter, done}
+use Rattle.handler.specs.Accept.{ownPart, termsAfter, done}
 use Rattle.prices.specs.declared.Market.{Market}
 use Rattle.packing.specs.declared.message.Event.the-variants.{Away}
 use Rattle.packing.specs.declared.report.Report.the-variants.{Noted, Repriced}
@@ -90,7 +90,7 @@ market = record { m = 1; bid = 221; offer = 235 }
 pub record Worked : Type 0 where
   -- the series is sound, and nothing stirs in it
   pub sound : soundSeries series ≡ true
-  pub settled-before : stirs (record { m = 1; bid = 220; offer = 235 }) (offer 221 220 ∷ bid 219 219 ∷ []) ≡ false
+  pub settled-before : anyStirs (record { m = 1; bid = 220; offer = 235 }) (offer 221 220 ∷ bid 219 219 ∷ []) ≡ false
   -- the message is accepted
   pub read : unpackOf messages (144 ∷ 0 ∷ 6 ∷ 232 ∷ 0 ∷ 0 ∷ 1 ∷ 214 ∷ 0 ∷ 0 ∷ 0 ∷ []) ≡ some (Away 221 235)
   pub passes : refusalOf series (askOf (Away 221 235)) ≡ 0
@@ -102,5 +102,5 @@ pub record Worked : Type 0 where
   pub freed : stirring market (bid 219 219 ∷ offer 221 221 ∷ []) (bid 219 219) ≡ true
 
 pub worked : Worked
-unfolding without all any pairs scan first still leading runFor ran thingOf unpackOf kinds keen meek reaches nearer mpv onGrid legal given back lastPrice pastLast apart allowed sliding minds minded upTo shortOf aimDisplay aimWorking stopped figures24 limited24 protection marketable resting atRest restless slides easedTo eases entriesOf bookOf hit hitBoth cost priority bestContra nearest hiddenWithin quoteIn lowest pricedAs soundEntry soundPair soundEntries soundBook nextEase easings nextStir stirrings eased stirred settled cut nextTake chances taken took stopFor rejectedBy entered stopsAtOnce protectionFor rejection arrived soundTerms soundPhase soundSeries refusalOf own termsAfter done stirs
+unfolding without all any pairs scan first still leading runFor ran thingOf unpackOf byKind keen meek reaches nearer mpv onGrid legal noneOrLegal back lastPrice pastLast apart allowed sliding minds minded upTo shortOf aimDisplay aimWorking stopped figures24 limited24 protection marketable restingPrices atRest stirsAt slides easedTo eases entriesOf bookOf hit hitBoth cost priority bestContra nearest hiddenWithin quoteIn lowest pricedAs soundEntry soundPair soundEntries soundBook nextEase easings nextStir stirrings eased stirred settled cut nextTake chances taken took stopFor rejectedBy entered stopsAtOnce protectionFor rejection arrived soundTerms soundPhase soundSeries refusalOf ownPart termsAfter done anyStirs
 worked = record { sound = refl; settled-before = refl; read = refl; passes = refl; moves = refl; held = refl; freed = refl }

@@ -15,7 +15,7 @@ use Rattle.settling_theory.specs.Settle.{settled}
 use Rattle.terms.specs.declared.Terms.{Terms}
 use Rattle.terms.specs.Terms.{marketOf}
 use Rattle.arrival.specs.Cancel.{cancelEntry, cancelQuote, sweep}
-use Rattle.arrival.specs.Arrive.{told, arrived, blocks}
+use Rattle.arrival.specs.Arrive.{reported, arrived, blocks}
 use Rattle.series.specs.declared.Series.{Series}
 use Rattle.handler.specs.declared.Ask.{Ask}
 use Rattle.handler.specs.Asked.{enters, quotes}
@@ -35,12 +35,12 @@ comer given a = record {
 
 -- THE MESSAGE'S OWN PART. Kinds 9 to 12 are noted; a phase then cancels: "Phase: noted, then 31s by entry." "Underlying and enable of themselves move no entry;
 -- settling follows them too."
-unfoldable pub own : Terms → Ask → List Entry → Ran (List Entry) Report
-own t a l =
+unfoldable pub ownPart : Terms → Ask → List Entry → Ran (List Entry) Report
+ownPart t a l =
     cond (enters a) (arrived t (comer (t .given) a) l)
     (cond (eqb (a .kind) 7) (cancelEntry (a .party) (a .entry) l)
     (cond (eqb (a .kind) 8) (cancelQuote (a .party) (a .sell) l)
-    (cond (eqb (a .kind) 11) (andThen (told Noted l) (sweep (a .quantity))) (told Noted l))))
+    (cond (eqb (a .kind) 11) (andThen (reported Noted l) (sweep (a .quantity))) (reported Noted l))))
 
 -- the series' numbers afterwards
 unfoldable pub termsAfter : Terms → Ask → Terms
@@ -69,7 +69,7 @@ settledIf t l = cond (eqb (t .phase) 1) (settled (marketOf t) l) (still l)
 
 -- THE WHOLE, on the entries that rest. "Settling comes last."
 unfoldable pub done : Terms → Ask → List Entry → Ran (List Entry) Report
-done t a l = andThen (own t a l) (settledIf (termsAfter t a))
+done t a l = andThen (ownPart t a l) (settledIf (termsAfter t a))
 
 abbrev pub seriesAfter : Series → Ask → Series
 seriesAfter s a = record {

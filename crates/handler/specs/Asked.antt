@@ -4,13 +4,13 @@
 use Prim.Native.Nat.{ℕ}
 use mathlib.Core.Bool.{Bool, false}
 use lib.Dec.{leb}
-use Rattle.packing.specs.declared.message.Terms.{Terms}
+use Rattle.packing.specs.declared.message.Entering.{Entering}
 use Rattle.packing.specs.declared.message.Event.{Event}
 use Rattle.packing.specs.declared.message.Event.the-variants.{Plain, Mmlo, Mmalo, Mmrp, Displayed, Dark, CancelEntry, CancelQuote, Away, Underlying, Phase, Enable}
 use Rattle.handler.specs.declared.Ask.{Ask}
 
 -- kinds 1 to 6
-abbrev pub entering : ℕ → Terms → Ask
+abbrev pub entering : ℕ → Entering → Ask
 entering kind t = record { kind = kind; party = t .party; sell = t .sell; price = t .price; quantity = t .quantity; second = 0; entry = 0 }
 
 -- document 01's number and fields for each case

@@ -24,8 +24,8 @@ pub record Handled : Type 0 where
   pub answer : Answer
   pub room : List ℕ
 
-abbrev pub answered : Answer → List ℕ → Handled
-answered r room = record { answer = r; room = room }
+abbrev pub inRoom : Answer → List ℕ → Handled
+inRoom r room = record { answer = r; room = room }
 
 -- "Each returns its number and count 0 and changes nothing."
 abbrev pub refused : ℕ → Series → List ℕ → Handled

@@ -5,7 +5,7 @@ use mathlib.Core.Bool.{Bool, true, false, cond, not, _&&_, _||_}
 use mathlib.Core.List.{List, [], _∷_}
 use lib.Dec.{eqb, leb}
 use lib.ListN.{length, getD}
-use Rattle.prices.specs.Step.{legal, given}
+use Rattle.prices.specs.Step.{legal, noneOrLegal}
 use Rattle.lists.specs.Choose.{Found, nowhere, found}
 use Rattle.lists.specs.Tests.{any}
 use Rattle.book.specs.declared.Entry.{Entry}
@@ -31,7 +31,7 @@ badParty a = cond (makersOnly a) (not (between 1 16 (a .party))) (cond (leb (a .
 abbrev pub badPrice : ℕ → Ask → Bool
 badPrice m a =
     cond (enters a) (not (legal m (a .price)))
-    (cond (eqb (a .kind) 9) (not (given m (a .price) && given m (a .second)))
+    (cond (eqb (a .kind) 9) (not (noneOrLegal m (a .price) && noneOrLegal m (a .second)))
     (cond (eqb (a .kind) 10) (not (leb (a .price) 100000)) false))
 
 -- 4: "quantity out of range, or phase above 2"

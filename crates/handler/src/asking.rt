@@ -2,15 +2,15 @@
 use crate::Ask;
 use book::Entry;
 use book::Pricing;
+use packing::message::Entering;
 use packing::message::Event;
-use packing::message::Terms;
 ghost use mathlib.Core.Path.{_≡_};
 ghost use Prim.Native.Nat.{_≤_};
 ghost use Rattle.handler.specs.Asked.{entering, askOf};
 ghost use Rattle.handler.specs.Accept.{comer};
 
 // Kinds 1 to 6.
-fn ask_to_enter(kind: u32, t: Terms) -> Ask
+fn ask_to_enter(kind: u32, t: Entering) -> Ask
     ensures { λ r. ⌜ r ≡ entering kind t ⌝ }
 {
     Ask {

@@ -42,12 +42,12 @@ ghost use Rattle.settling_theory.specs.Settle.{settled};
 ghost use Rattle.settling.specs.Turns.{Settleable};
 ghost use Rattle.telling.specs.Stage.{Roomy, Staged};
 ghost use Rattle.arrival.specs.Cancel.{cancelEntry, sweep, Asks};
-ghost use Rattle.arrival.specs.Arrive.{told};
+ghost use Rattle.arrival.specs.Arrive.{reported};
 ghost use Rattle.handler.specs.Asked.{askOf};
 ghost use Rattle.handler.specs.Refuse.{refusalOf};
-ghost use Rattle.handler.specs.Accept.{own, termsAfter, settledIf};
+ghost use Rattle.handler.specs.Accept.{ownPart, termsAfter, settledIf};
 ghost use Rattle.handler.specs.Acts.{Whole, Admits, Acts, facingBy, SettlesIf, BlocksFor, blockedBy, Marks};
-ghost use Rattle.handler.specs.Handle.{firstOf, answered, accepted, judged, handled, handledAt};
+ghost use Rattle.handler.specs.Handle.{firstOf, inRoom, accepted, judged, handled, handledAt};
 
 fn refused(series: Series, why: u32) -> Answer
     ensures { λ r. ⌜ r ≡ record { refusal = why; count = 0; series = series } ⌝ }
@@ -97,8 +97,8 @@ fn cancel_entry(b: Book, party: u8, entry: u32, room: &mut [u8], n: &mut usize) 
 
 // A phase is noted, and then cancels.
 fn note_phase(b: Book, phase: u32, room: &mut [u8], n: &mut usize) -> Book
-    requires { ⌜ Asks (andThen (told Noted (entriesOf b)) (sweep phase)) b (now room) (now n) ⌝ }
-    ensures { λ r. ⌜ Staged (andThen (told Noted (entriesOf b)) (sweep phase)) (now (room .entry)) (now (n .entry)) r (now (room .exit)) (now (n .exit)) ⌝ }
+    requires { ⌜ Asks (andThen (reported Noted (entriesOf b)) (sweep phase)) b (now room) (now n) ⌝ }
+    ensures { λ r. ⌜ Staged (andThen (reported Noted (entriesOf b)) (sweep phase)) (now (room .entry)) (now (n .entry)) r (now (room .exit)) (now (n .exit)) ⌝ }
 {
     put(room, n, Report::Noted);
     sweep_all(b, phase, room, n)
@@ -119,8 +119,8 @@ fn facing_of(check: Check, t: Terms, sell: bool) -> Facing
 // The message's own part.
 fn act(s: Series, check: Check, a: Ask, room: &mut [u8], n: &mut usize) -> Book
     requires { ⌜ Acts s check a ⌝ }
-    requires { ⌜ Roomy (now room) (now n) (own (s .terms) a (entriesOf (s .book)) .records) ⌝ }
-    ensures { λ r. ⌜ Staged (own (s .terms) a (entriesOf (s .book))) (now (room .entry)) (now (n .entry)) r (now (room .exit)) (now (n .exit)) ⌝ }
+    requires { ⌜ Roomy (now room) (now n) (ownPart (s .terms) a (entriesOf (s .book)) .records) ⌝ }
+    ensures { λ r. ⌜ Staged (ownPart (s .terms) a (entriesOf (s .book))) (now (room .entry)) (now (n .entry)) r (now (room .exit)) (now (n .exit)) ⌝ }
 {
     let b = s.book;
     let t = s.terms;
@@ -202,7 +202,7 @@ fn put_together(s: Series, a: Ask, terms: Terms, blocking: bool, book: Book) -> 
 fn accept(s: Series, check: Check, a: Ask, room: &mut [u8]) -> Answer
     requires { ⌜ Acts s check a ⌝ }
     requires { ⌜ 31920 ≤ length (now room) ⌝ }
-    ensures { λ r. ⌜ answered r (now (room .exit)) ≡ accepted s a (now (room .entry)) ⌝ }
+    ensures { λ r. ⌜ inRoom r (now (room .exit)) ≡ accepted s a (now (room .entry)) ⌝ }
 {
     let blocking = is_blocking(s.terms, a);
     let mut n = 0usize;
@@ -221,7 +221,7 @@ fn accept(s: Series, check: Check, a: Ask, room: &mut [u8]) -> Answer
 fn answer_event(series: Series, check: Check, event: Event, room: &mut [u8]) -> Answer
     requires { ⌜ Whole series check ⌝ }
     requires { ⌜ 31920 ≤ length (now room) ⌝ }
-    ensures { λ r. ⌜ answered r (now (room .exit)) ≡ judged series (askOf event) (now (room .entry)) (refusalOf series (askOf event)) ⌝ }
+    ensures { λ r. ⌜ inRoom r (now (room .exit)) ≡ judged series (askOf event) (now (room .entry)) (refusalOf series (askOf event)) ⌝ }
 {
     let a = ask_of(event);
     let why = refusal_of(series, check, a);
@@ -261,7 +261,7 @@ fn before_reading(series: Series, space: usize) -> Admission
 
 // Every series, message and room has its answer.
 pub fn handle(series: Series, message: &[u8], room: &mut [u8]) -> Answer
-    ensures { λ r. ⌜ answered r (now (room .exit)) ≡ handled series (now (message .entry)) (now (room .entry)) ⌝ }
+    ensures { λ r. ⌜ inRoom r (now (room .exit)) ≡ handled series (now (message .entry)) (now (room .entry)) ⌝ }
 {
     let admission = before_reading(series, room.len());
     if admission.refusal != 0 {
@@ -275,7 +275,7 @@ pub fn handle(series: Series, message: &[u8], room: &mut [u8]) -> Answer
 
 // The same of a message where it stands in a run.
 pub fn handle_at(series: Series, run: &[u8], at: usize, room: &mut [u8]) -> Answer
-    ensures { λ r. ⌜ answered r (now (room .exit)) ≡ handledAt series (now (run .entry)) at (now (room .entry)) ⌝ }
+    ensures { λ r. ⌜ inRoom r (now (room .exit)) ≡ handledAt series (now (run .entry)) at (now (room .entry)) ⌝ }
 {
     let admission = before_reading(series, room.len());
     if admission.refusal != 0 {

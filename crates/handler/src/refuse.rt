@@ -3,8 +3,8 @@ use crate::Ask;
 use book::Book;
 use book::Rank;
 use book::find::find_entry;
-use prices::step::is_given;
 use prices::step::is_legal;
+use prices::step::is_none_or_legal;
 use series::Series;
 use series::sound::is_between;
 use soundness::Check;
@@ -45,7 +45,7 @@ pub fn is_bad_price(m: u32, a: Ask) -> bool
         return !is_legal(m, a.price);
     }
     if a.kind == 9 {
-        return !(is_given(m, a.price) & is_given(m, a.second));
+        return !(is_none_or_legal(m, a.price) & is_none_or_legal(m, a.second));
     }
     if a.kind == 10 {
         return !(a.price <= 100000);

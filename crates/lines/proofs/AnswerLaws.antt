@@ -22,7 +22,7 @@ use Rattle.packing.proofs.RoomLaws.{reports-read-back}
 use Rattle.io.specs.Counts.{Counts}
 use Rattle.lines.specs.Decimal.{decimal}
 use Rattle.lines.specs.Lines.{space, spaced, reportLine, refusalLine, lineOf, reportLines, answerText, linesOf}
-use Rattle.lines.specs.Buffer.{Put, roomy, printed, answered}
+use Rattle.lines.specs.Buffer.{TextPut, roomy, printed, answerPrinted}
 use Rattle.lines.proofs.Counting.{counts}
 use Rattle.lines.proofs.DecimalLaws.{decimal-length}
 use Rattle.lines.proofs.BufferLaws.{printed-there, printed-nowhere, printed-length, printed-fits}
@@ -107,7 +107,7 @@ refused-text number refusal count room h =
 -- WHAT `answer_lines` LEAVES: the text, or the buffer as it was
 module _ (out : List ℕ) (at number refusal count : ℕ) (room : List ℕ) (lines : ℕ) (text : List ℕ)
     (is : (answerText number refusal count room ≡ text) × (linesOf refusal count ≡ lines)) where
-  answered-is : answered out at number refusal count room ≡ printed out at lines text
+  answered-is : answerPrinted out at number refusal count room ≡ printed out at lines text
   answered-is = ap₂ (λ (n : ℕ) (s : List ℕ). printed out at n s) (is .1) (is .0)
 
   -- where the test says that there is room, there is
@@ -116,29 +116,29 @@ module _ (out : List ℕ) (at number refusal count : ℕ) (room : List ℕ) (lin
   answered-room n r b h =
       omega (arith, leb-true (at + 120 * lines) (length out) h, answer-short number refusal count room n r b, ap length (is .0), is .1)
 
-  pub answered-there : {after : List ℕ} {end : ℕ} → roomy (length out) at lines ≡ true → Put out at text after end
-      → (end ≡ answered out at number refusal count room .0) × (after ≡ answered out at number refusal count room .1)
+  pub answered-there : {after : List ℕ} {end : ℕ} → roomy (length out) at lines ≡ true → TextPut out at text after end
+      → (end ≡ answerPrinted out at number refusal count room .0) × (after ≡ answerPrinted out at number refusal count room .1)
   answered-there h p = rw answered-is (printed-there lines h p)
 
   pub answered-nowhere : roomy (length out) at lines ≡ false
-      → (0 ≡ answered out at number refusal count room .0) × (out ≡ answered out at number refusal count room .1)
+      → (0 ≡ answerPrinted out at number refusal count room .0) × (out ≡ answerPrinted out at number refusal count room .1)
   answered-nowhere h = rw answered-is (printed-nowhere out text at lines h)
 
 -- FOR CALLERS
 -- the buffer's length stays
-pub answer-length : (out : List ℕ) (at number refusal count : ℕ) (room : List ℕ) → length (answered out at number refusal count room .1) ≡ length out
+pub answer-length : (out : List ℕ) (at number refusal count : ℕ) (room : List ℕ) → length (answerPrinted out at number refusal count room .1) ≡ length out
 answer-length out at number refusal count room = printed-length out at (linesOf refusal count) (answerText number refusal count room)
 
 -- what is printed ends within the buffer
 pub answer-fits : (out : List ℕ) (at number refusal count : ℕ) (room : List ℕ) → number < 2 ^ 64 → refusal < 2 ^ 32 → Bytes room
-    → answered out at number refusal count room .0 ≤ length out
+    → answerPrinted out at number refusal count room .0 ≤ length out
 answer-fits out at number refusal count room n r b =
     printed-fits out at (linesOf refusal count) (answerText number refusal count room) (answer-short number refusal count room n r b)
 
 -- so the bytes up to its end can be lent
 pub answered-counts : (out : List ℕ) (at number refusal count : ℕ) (room : List ℕ) {after : List ℕ} {end : ℕ} → number < 2 ^ 64 → refusal < 2 ^ 32 → Bytes room
-    → (end ≡ answered out at number refusal count room .0) × (after ≡ answered out at number refusal count room .1)
-    → (end ≡ answered out at number refusal count room .0) × ((after ≡ answered out at number refusal count room .1) × Counts end after)
+    → (end ≡ answerPrinted out at number refusal count room .0) × (after ≡ answerPrinted out at number refusal count room .1)
+    → (end ≡ answerPrinted out at number refusal count room .0) × ((after ≡ answerPrinted out at number refusal count room .1) × Counts end after)
 answered-counts out at number refusal count room {after} {end} n r b p =
     (p .0, (p .1, counts end after (omega (arith, p .0, ap length (p .1), answer-length out at number refusal count room, answer-fits out at number refusal count room n r b))))
 

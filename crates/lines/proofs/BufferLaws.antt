@@ -9,16 +9,16 @@ use lib.Dec.{leb}
 use lib.ListN.{length, set, length-append}
 use lib.Seq.{sets, length-sets}
 use Rattle.packing.proofs.RoomLaws.{sets-append}
-use Rattle.lines.specs.Buffer.{Put, roomy, printed}
+use Rattle.lines.specs.Buffer.{TextPut, roomy, printed}
 
 -- no text, one byte, one text behind another
-pub put-none : (out : List ℕ) (at : ℕ) → Put out at [] out at
+pub put-none : (out : List ℕ) (at : ℕ) → TextPut out at [] out at
 put-none out at = record { stored = refl; ends = omega arith }
 
-pub put-byte : (out : List ℕ) (at b : ℕ) → Put out at (b ∷ []) (set out at b) (at + 1)
+pub put-byte : (out : List ℕ) (at b : ℕ) → TextPut out at (b ∷ []) (set out at b) (at + 1)
 put-byte out at b = record { stored = refl; ends = omega arith }
 
-pub put-then : {out a mid b after : List ℕ} {at e end : ℕ} → Put out at a mid e → Put mid e b after end → Put out at (a ++ b) after end
+pub put-then : {out a mid b after : List ℕ} {at e end : ℕ} → TextPut out at a mid e → TextPut mid e b after end → TextPut out at (a ++ b) after end
 put-then {out} {a} {mid} {b} {after} {at} {e} {end} p q =
     record {
       stored = q .stored ∙ ap₂ (λ (m : List ℕ) (i : ℕ). sets m i b) (p .stored) (p .ends) ∙ sym (sets-append out at a b);
@@ -26,14 +26,14 @@ put-then {out} {a} {mid} {b} {after} {at} {e} {end} p q =
     }
 
 -- the buffer's length stays
-pub put-length : {out text after : List ℕ} {at end : ℕ} → Put out at text after end → length after ≡ length out
+pub put-length : {out text after : List ℕ} {at end : ℕ} → TextPut out at text after end → length after ≡ length out
 put-length {out} {text} {after} {at} {end} p = ap length (p .stored) ∙ length-sets out at text
 
 -- a text that finds room, and its first part put: the second finds room behind it
 pub room-front : (out : List ℕ) (at : ℕ) (a b : List ℕ) → at + length (a ++ b) ≤ length out → at + length a ≤ length out
 room-front out at a b h = omega (arith, length-append a b)
 
-pub room-behind : {out a mid : List ℕ} {at e : ℕ} (b : List ℕ) → Put out at a mid e → at + length (a ++ b) ≤ length out → e + length b ≤ length mid
+pub room-behind : {out a mid : List ℕ} {at e : ℕ} (b : List ℕ) → TextPut out at a mid e → at + length (a ++ b) ≤ length out → e + length b ≤ length mid
 room-behind {out} {a} {mid} {at} {e} b p h = omega (arith, p .ends, put-length p, length-append a b)
 
 -- A LOOP THAT PUTS A TEXT PART BY PART: what is left of it, put where the loop stands, gives what the whole text gives
@@ -45,7 +45,7 @@ pub going-start : (out : List ℕ) (at : ℕ) (text : List ℕ) → Going out at
 going-start out at text = record { stores = refl; leads = refl }
 
 pub going-turn : {out text now left after : List ℕ} {at end next : ℕ} (part rest : List ℕ) → left ≡ part ++ rest
-    → Going out at text now end left → Put now end part after next → Going out at text after next rest
+    → Going out at text now end left → TextPut now end part after next → Going out at text after next rest
 going-turn {out} {text} {now} {left} {after} {at} {end} {next} part rest e g p =
     record {
       stores =
@@ -56,7 +56,7 @@ going-turn {out} {text} {now} {left} {after} {at} {end} {next} part rest e g p =
       leads = omega (arith, p .ends, g .leads, ap length e, length-append part rest);
     }
 
-pub going-done : {out text now : List ℕ} {at end : ℕ} → Going out at text now end [] → Put out at text now end
+pub going-done : {out text now : List ℕ} {at end : ℕ} → Going out at text now end [] → TextPut out at text now end
 going-done g = record { stored = g .stores; ends = omega (arith, g .leads) }
 
 pub going-left : {out text now left rest : List ℕ} {at end : ℕ} → left ≡ rest → Going out at text now end left → Going out at text now end rest
@@ -90,7 +90,7 @@ printed-if : (out text : List ℕ) (at lines : ℕ) (b : Bool) → roomy (length
 unfolding printed
 printed-if out text at lines b h = rw h
 
-pub printed-there : {out text after : List ℕ} {at end : ℕ} (lines : ℕ) → roomy (length out) at lines ≡ true → Put out at text after end
+pub printed-there : {out text after : List ℕ} {at end : ℕ} (lines : ℕ) → roomy (length out) at lines ≡ true → TextPut out at text after end
     → (end ≡ printed out at lines text .0) × (after ≡ printed out at lines text .1)
 printed-there {out} {text} {after} {at} {end} lines h p =
     let e = printed-if out text at lines true h in

@@ -10,7 +10,7 @@ use lib.Seq.{sets}
 use Rattle.lines.specs.Lines.{answerText, linesOf}
 
 -- a text is put into a buffer: its bytes stand from `at` on, every other byte is as it was, and `end` is where it ends
-pub record Put (out : List ℕ) (at : ℕ) (text after : List ℕ) (end : ℕ) : Type 0 where
+pub record TextPut (out : List ℕ) (at : ℕ) (text after : List ℕ) (end : ℕ) : Type 0 where
   pub stored : after ≡ sets out at text
   pub ends : end ≡ at + length text
 
@@ -24,5 +24,5 @@ unfoldable pub printed : List ℕ → ℕ → ℕ → List ℕ → ℕ × List �
 printed out at lines text = cond (roomy (length out) at lines) (at + length text, sets out at text) (0, out)
 
 -- the same of what is printed for a message
-abbrev pub answered : List ℕ → ℕ → ℕ → ℕ → ℕ → List ℕ → ℕ × List ℕ
-answered out at number refusal count room = printed out at (linesOf refusal count) (answerText number refusal count room)
+abbrev pub answerPrinted : List ℕ → ℕ → ℕ → ℕ → ℕ → List ℕ → ℕ × List ℕ
+answerPrinted out at number refusal count room = printed out at (linesOf refusal count) (answerText number refusal count room)

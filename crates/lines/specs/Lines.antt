@@ -17,8 +17,8 @@ abbrev pub lineEnd : ℕ
 lineEnd = 10
 
 -- ` refused `, with its spaces
-abbrev pub refused : List ℕ
-refused = space ∷ 114 ∷ 101 ∷ 102 ∷ 117 ∷ 115 ∷ 101 ∷ 100 ∷ space ∷ []
+abbrev pub refusedWord : List ℕ
+refusedWord = space ∷ 114 ∷ 101 ∷ 102 ∷ 117 ∷ 115 ∷ 101 ∷ 100 ∷ space ∷ []
 
 -- numbers, a space before each
 abbrev pub spaced : List ℕ → List ℕ
@@ -31,7 +31,7 @@ reportLine number report = decimal number ++ spaced (fieldsOf report) ++ (lineEn
 
 -- "A refused message, a short last one included, prints its number, `refused`, the refusal"
 unfoldable pub refusalLine : ℕ → ℕ → List ℕ
-refusalLine number refusal = decimal number ++ refused ++ decimal refusal ++ (lineEnd ∷ [])
+refusalLine number refusal = decimal number ++ refusedWord ++ decimal refusal ++ (lineEnd ∷ [])
 
 -- the line of what stands at a place of the room: none, where no report does
 abbrev pub lineOf : ℕ → Option Report → List ℕ

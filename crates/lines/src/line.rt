@@ -7,7 +7,7 @@ ghost use Rattle.packing.specs.Codec.{unpackOf};
 ghost use Rattle.packing.specs.Report.{reports};
 ghost use Rattle.packing.specs.Room.{readBack};
 ghost use Rattle.lines.specs.Lines.{spaced, reportLine, refusalLine, lineOf, reportLines};
-ghost use Rattle.lines.specs.Buffer.{Put, roomy, answered};
+ghost use Rattle.lines.specs.Buffer.{TextPut, roomy, answerPrinted};
 use crate::text::put_field;
 use crate::text::put_number;
 use packing::report::Report;
@@ -19,7 +19,7 @@ use packing::room::store;
 // The fields, each with a space before it.
 fn put_fields(out: &mut [u8], at: usize, fields: [u32; 9]) -> usize
     requires { ⌜ at + length (spaced fields) ≤ length (now out) ⌝ }
-    ensures { λ r. ⌜ Put (now (out .entry)) at (spaced fields) (now (out .exit)) r ⌝ }
+    ensures { λ r. ⌜ TextPut (now (out .entry)) at (spaced fields) (now (out .exit)) r ⌝ }
 {
     let mut end = at;
     let mut i = 0usize;
@@ -33,7 +33,7 @@ fn put_fields(out: &mut [u8], at: usize, fields: [u32; 9]) -> usize
 // The message's number and the report's nine fields, one space between.
 fn put_report(out: &mut [u8], at: usize, number: u64, report: Report) -> usize
     requires { ⌜ at + length (reportLine number report) ≤ length (now out) ⌝ }
-    ensures { λ r. ⌜ Put (now (out .entry)) at (reportLine number report) (now (out .exit)) r ⌝ }
+    ensures { λ r. ⌜ TextPut (now (out .entry)) at (reportLine number report) (now (out .exit)) r ⌝ }
 {
     let fields = fields_of(report);
     let start = put_number(out, at, number);
@@ -45,7 +45,7 @@ fn put_report(out: &mut [u8], at: usize, number: u64, report: Report) -> usize
 // The report at a place of the room; no line where none stands there.
 fn put_place(out: &mut [u8], at: usize, number: u64, room: &[u8], k: usize) -> usize
     requires { ⌜ at + length (lineOf number (unpackOf reports (take 14 (drop (14 * k) (now room))))) ≤ length (now out) ⌝ }
-    ensures { λ r. ⌜ Put (now (out .entry)) at (lineOf number (unpackOf reports (take 14 (drop (14 * k) (now (room .entry)))))) (now (out .exit)) r ⌝ }
+    ensures { λ r. ⌜ TextPut (now (out .entry)) at (lineOf number (unpackOf reports (take 14 (drop (14 * k) (now (room .entry)))))) (now (out .exit)) r ⌝ }
 {
     if room.len() / 14 <= k {
         return at;
@@ -60,7 +60,7 @@ fn put_place(out: &mut [u8], at: usize, number: u64, room: &[u8], k: usize) -> u
 
 fn put_reports(out: &mut [u8], at: usize, number: u64, count: usize, room: &[u8]) -> usize
     requires { ⌜ at + length (reportLines number (readBack count (now room))) ≤ length (now out) ⌝ }
-    ensures { λ r. ⌜ Put (now (out .entry)) at (reportLines number (readBack count (now (room .entry)))) (now (out .exit)) r ⌝ }
+    ensures { λ r. ⌜ TextPut (now (out .entry)) at (reportLines number (readBack count (now (room .entry)))) (now (out .exit)) r ⌝ }
 {
     let mut end = at;
     let mut k = 0usize;
@@ -74,7 +74,7 @@ fn put_reports(out: &mut [u8], at: usize, number: u64, count: usize, room: &[u8]
 // The message's number, `refused`, the refusal.
 fn put_refusal(out: &mut [u8], at: usize, number: u64, refusal: u32) -> usize
     requires { ⌜ at + length (refusalLine number refusal) ≤ length (now out) ⌝ }
-    ensures { λ r. ⌜ Put (now (out .entry)) at (refusalLine number refusal) (now (out .exit)) r ⌝ }
+    ensures { λ r. ⌜ TextPut (now (out .entry)) at (refusalLine number refusal) (now (out .exit)) r ⌝ }
 {
     let start = put_number(out, at, number);
     store(out, start, b" refused ");
@@ -103,8 +103,8 @@ pub fn answer_lines(
     count: usize,
     room: &[u8],
 ) -> usize
-    ensures { λ r. ⌜ r ≡ answered (now (out .entry)) at number refusal count (now (room .entry)) .0 ⌝ }
-    ensures { λ _. ⌜ now (out .exit) ≡ answered (now (out .entry)) at number refusal count (now (room .entry)) .1 ⌝ }
+    ensures { λ r. ⌜ r ≡ answerPrinted (now (out .entry)) at number refusal count (now (room .entry)) .0 ⌝ }
+    ensures { λ _. ⌜ now (out .exit) ≡ answerPrinted (now (out .entry)) at number refusal count (now (room .entry)) .1 ⌝ }
     ensures { λ r. ⌜ Counts r (now (out .exit)) ⌝ }
 {
     let size = out.len();

@@ -4,13 +4,13 @@ ghost use mathlib.Core.List.{_∷_};
 ghost use lib.ListN.{length};
 ghost use Rattle.lines.specs.Decimal.{decimal};
 ghost use Rattle.lines.specs.Lines.{space};
-ghost use Rattle.lines.specs.Buffer.{Put};
+ghost use Rattle.lines.specs.Buffer.{TextPut};
 use packing::room::store;
 
 // Puts a number of several digits from `at` on, and answers where it ends.
 fn put_digits(out: &mut [u8], at: usize, n: u64) -> usize
     requires { ⌜ at + length (decimal n) ≤ length (now out) ⌝ }
-    ensures { λ r. ⌜ Put (now (out .entry)) at (decimal n) (now (out .exit)) r ⌝ }
+    ensures { λ r. ⌜ TextPut (now (out .entry)) at (decimal n) (now (out .exit)) r ⌝ }
 {
     let mut digits = [0u8; 20];
     let k = io::decimal(n, &mut digits);
@@ -21,7 +21,7 @@ fn put_digits(out: &mut [u8], at: usize, n: u64) -> usize
 // Puts a number in decimal from `at` on, and answers where it ends. Most fields are one digit.
 pub(crate) fn put_number(out: &mut [u8], at: usize, n: u64) -> usize
     requires { ⌜ at + length (decimal n) ≤ length (now out) ⌝ }
-    ensures { λ r. ⌜ Put (now (out .entry)) at (decimal n) (now (out .exit)) r ⌝ }
+    ensures { λ r. ⌜ TextPut (now (out .entry)) at (decimal n) (now (out .exit)) r ⌝ }
 {
     if n < 10 {
         out[at] = 48 + n as u8;
@@ -33,7 +33,7 @@ pub(crate) fn put_number(out: &mut [u8], at: usize, n: u64) -> usize
 // Puts a space and a field behind it.
 pub(crate) fn put_field(out: &mut [u8], at: usize, field: u32) -> usize
     requires { ⌜ at + length (space ∷ decimal field) ≤ length (now out) ⌝ }
-    ensures { λ r. ⌜ Put (now (out .entry)) at (space ∷ decimal field) (now (out .exit)) r ⌝ }
+    ensures { λ r. ⌜ TextPut (now (out .entry)) at (space ∷ decimal field) (now (out .exit)) r ⌝ }
 {
     out[at] = b' ';
     put_number(out, at + 1, field as u64)

@@ -7,21 +7,21 @@ use mathlib.Core.Path.{_≡_, refl, ap}
 use native.Mathlib.Omega.{arith}
 use lib.Dec.{eqb}
 use borrow.Author.Tests.{ne-eqb}
-use Rattle.packing.specs.declared.message.Terms.{Terms}
+use Rattle.packing.specs.declared.message.Entering.{Entering}
 use Rattle.packing.specs.declared.message.Event.{Event}
 use Rattle.packing.specs.declared.message.Event.the-variants.{Plain, Mmlo, Mmalo, Mmrp, Displayed, Dark, CancelEntry, CancelQuote, Away, Underlying, Phase, Enable}
 use Rattle.packing.specs.declared.message.Unpacked.{Unpacked}
 use Rattle.packing.specs.declared.message.Unpacked.the-variants.{Message, Nothing}
 use Rattle.packing.specs.Codec.{bit, lookUp, answerOf, unpackOf}
-use Rattle.packing.specs.Message.{codeOf, kinds, claimedBy, messages, unpacked, saidBy}
+use Rattle.packing.specs.Message.{codeOf, byKind, claimedBy, messages, unpacked, saidBy}
 use Rattle.packing.proofs.CodecLaws.{Lawful, bit-is, told-both}
 
 -- no other kind is in the table
-pub unknown-kind : (k : ℕ) (t : Terms) (second entry : ℕ)
+pub unknown-kind : (k : ℕ) (t : Entering) (second entry : ℕ)
     → (k ≡ 1 → ⊥) → (k ≡ 2 → ⊥) → (k ≡ 3 → ⊥) → (k ≡ 4 → ⊥) → (k ≡ 5 → ⊥) → (k ≡ 6 → ⊥)
     → (k ≡ 7 → ⊥) → (k ≡ 8 → ⊥) → (k ≡ 9 → ⊥) → (k ≡ 10 → ⊥) → (k ≡ 11 → ⊥) → (k ≡ 12 → ⊥)
-    → lookUp k (kinds t second entry) ≡ none
-unfolding kinds
+    → lookUp k (byKind t second entry) ≡ none
+unfolding byKind
 unknown-kind k t second entry n1 n2 n3 n4 n5 n6 n7 n8 n9 n10 n11 n12 =
     simp (
       ne-eqb _ _ n1,
@@ -39,17 +39,17 @@ unknown-kind k t second entry n1 n2 n3 n4 n5 n6 n7 n8 n9 n10 n11 n12 =
     )
 
 -- terms can be told from their fields
-terms-claimed : (t : Terms) → _≡_ {A = Terms} (record { party = t .party; sell = eqb (bit (t .sell)) 1; price = t .price; quantity = t .quantity }) t
+terms-claimed : (t : Entering) → _≡_ {A = Entering} (record { party = t .party; sell = eqb (bit (t .sell)) 1; price = t .price; quantity = t .quantity }) t
 terms-claimed t i = record { party = t .party; sell = bit-is (t .sell) i; price = t .price; quantity = t .quantity }
 
 code-claimed : (e : Event) → claimedBy (codeOf e) ≡ some e
-unfolding kinds
-code-claimed (Plain t) = ap (λ (u : Terms). some (Plain u)) (terms-claimed t)
-code-claimed (Mmlo t) = ap (λ (u : Terms). some (Mmlo u)) (terms-claimed t)
-code-claimed (Mmalo t) = ap (λ (u : Terms). some (Mmalo u)) (terms-claimed t)
-code-claimed (Mmrp t) = ap (λ (u : Terms). some (Mmrp u)) (terms-claimed t)
-code-claimed (Displayed t) = ap (λ (u : Terms). some (Displayed u)) (terms-claimed t)
-code-claimed (Dark t) = ap (λ (u : Terms). some (Dark u)) (terms-claimed t)
+unfolding byKind
+code-claimed (Plain t) = ap (λ (u : Entering). some (Plain u)) (terms-claimed t)
+code-claimed (Mmlo t) = ap (λ (u : Entering). some (Mmlo u)) (terms-claimed t)
+code-claimed (Mmalo t) = ap (λ (u : Entering). some (Mmalo u)) (terms-claimed t)
+code-claimed (Mmrp t) = ap (λ (u : Entering). some (Mmrp u)) (terms-claimed t)
+code-claimed (Displayed t) = ap (λ (u : Entering). some (Displayed u)) (terms-claimed t)
+code-claimed (Dark t) = ap (λ (u : Entering). some (Dark u)) (terms-claimed t)
 code-claimed (CancelEntry party entry) = refl
 code-claimed (CancelQuote party sell) = ap (λ (s : Bool). some (CancelQuote party s)) (bit-is sell)
 code-claimed (Away bid offer) = refl

@@ -14,16 +14,16 @@ use Rattle.packing.specs.declared.report.Unpacked.{Unpacked}
 use Rattle.packing.specs.declared.report.Unpacked.the-variants.{Told, Nothing}
 use Rattle.packing.specs.declared.report.Packed.{Packed}
 use Rattle.packing.specs.Codec.{bit, lookUp, packs, answerOf, unpackOf}
-use Rattle.packing.specs.Report.{row, fieldsOf, codeOf, kinds, kindsOf, claimedBy, reports, unpacked, packed, saidBy}
+use Rattle.packing.specs.Report.{nineFields, fieldsOf, codeOf, byKind, kindsOf, claimedBy, reports, unpacked, packed, saidBy}
 use Rattle.packing.proofs.CodecLaws.{Lawful, bit-is, fit-packs, told-both}
 
 -- what is not of kinds 1 to 3 is looked up among the later kinds, and no kind but 1 to 6 is in the table
 pub later-kind : (k : ℕ) (l : List ℕ) → (k ≡ 1 → ⊥) → (k ≡ 2 → ⊥) → (k ≡ 3 → ⊥) → lookUp k (kindsOf l) ≡ lookUp k (drop 3 (kindsOf l))
-unfolding kinds
+unfolding byKind
 later-kind k l n1 n2 n3 = simp (ne-eqb _ _ n1, ne-eqb _ _ n2, ne-eqb _ _ n3)
 
 pub unknown-kind : (k : ℕ) (l : List ℕ) → (k ≡ 4 → ⊥) → (k ≡ 5 → ⊥) → (k ≡ 6 → ⊥) → lookUp k (drop 3 (kindsOf l)) ≡ none
-unfolding kinds
+unfolding byKind
 unknown-kind k l n4 n5 n6 = simp (ne-eqb _ _ n4, ne-eqb _ _ n5, ne-eqb _ _ n6)
 
 -- the nine fields, one by one, and the zero bits
@@ -43,7 +43,7 @@ code-fields r f h = rw h (one-by-one r)
     one-by-one (Cancelled reason sell party entry limit quantity) = refl
 
 code-claimed : (r : Report) → claimedBy (codeOf r) ≡ some r
-unfolding kinds
+unfolding byKind
 code-claimed Noted = refl
 code-claimed (Rejected reason sell party entry limit quantity) = ap (λ (s : Bool). some (Rejected reason s party entry limit quantity)) (bit-is sell)
 code-claimed (Traded sell party entry other price quantity) = ap (λ (s : Bool). some (Traded s party entry other price quantity)) (bit-is sell)
@@ -80,7 +80,7 @@ bit-small false = omega arith
 
 row-fits : (kind reason : ℕ) (sell : Bool) (party entry other price second quantity : ℕ)
     → kind < 8 → reason < 32 → party < 128 → entry < 1048576 → other < 1048576 → price < 131072 → second < 131072 → quantity < 131072
-    → Fit (reports .widths) (row kind reason sell party entry other price second quantity ++ (0 ∷ []))
+    → Fit (reports .widths) (nineFields kind reason sell party entry other price second quantity ++ (0 ∷ []))
 row-fits kind reason sell party entry other price second quantity k r p e o a b q =
     (k, (r, (bit-small sell, (p, (e, (o, (a, (b, (q, (omega arith, tt))))))))))
 

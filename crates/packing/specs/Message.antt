@@ -5,7 +5,7 @@ use mathlib.Core.List.{List, [], _∷_}
 use mathlib.Core.Option.{Option, none, some}
 use lib.Dec.{eqb}
 use lib.ListN.{getD, replicate, take, drop}
-use Rattle.packing.specs.declared.message.Terms.{Terms}
+use Rattle.packing.specs.declared.message.Entering.{Entering}
 use Rattle.packing.specs.declared.message.Event.{Event}
 use Rattle.packing.specs.declared.message.Event.the-variants.{Plain, Mmlo, Mmalo, Mmrp, Displayed, Dark, CancelEntry, CancelQuote, Away, Underlying, Phase, Enable}
 use Rattle.packing.specs.declared.message.Unpacked.{Unpacked}
@@ -18,17 +18,17 @@ abbrev pub widths : List ℕ
 widths = 4 ∷ 7 ∷ 1 ∷ 17 ∷ 17 ∷ 17 ∷ 20 ∷ 5 ∷ []
 
 -- kinds 1 to 6: "party, side, price (limit), quantity"
-abbrev pub termsCode : ℕ → Terms → List ℕ
-termsCode kind t = kind ∷ t .party ∷ bit (t .sell) ∷ t .price ∷ t .quantity ∷ 0 ∷ 0 ∷ 0 ∷ []
+abbrev pub enteringCode : ℕ → Entering → List ℕ
+enteringCode kind t = kind ∷ t .party ∷ bit (t .sell) ∷ t .price ∷ t .quantity ∷ 0 ∷ 0 ∷ 0 ∷ []
 
 -- THE TABLE of document 01: the number of each case and its fields, in the message's order. "Fields not named here are zero."
 abbrev pub codeOf : Event → List ℕ
-codeOf (Plain t) = termsCode 1 t
-codeOf (Mmlo t) = termsCode 2 t
-codeOf (Mmalo t) = termsCode 3 t
-codeOf (Mmrp t) = termsCode 4 t
-codeOf (Displayed t) = termsCode 5 t
-codeOf (Dark t) = termsCode 6 t
+codeOf (Plain t) = enteringCode 1 t
+codeOf (Mmlo t) = enteringCode 2 t
+codeOf (Mmalo t) = enteringCode 3 t
+codeOf (Mmrp t) = enteringCode 4 t
+codeOf (Displayed t) = enteringCode 5 t
+codeOf (Dark t) = enteringCode 6 t
 codeOf (CancelEntry party entry) = 7 ∷ party ∷ 0 ∷ 0 ∷ 0 ∷ 0 ∷ entry ∷ 0 ∷ []
 codeOf (CancelQuote party sell) = 8 ∷ party ∷ bit sell ∷ 0 ∷ 0 ∷ 0 ∷ 0 ∷ 0 ∷ []
 codeOf (Away bid offer) = 9 ∷ 0 ∷ 0 ∷ bid ∷ 0 ∷ offer ∷ 0 ∷ 0 ∷ []
@@ -37,8 +37,8 @@ codeOf (Phase phase) = 11 ∷ 0 ∷ 0 ∷ 0 ∷ phase ∷ 0 ∷ 0 ∷ 0 ∷ []
 codeOf (Enable party) = 12 ∷ party ∷ 0 ∷ 0 ∷ 0 ∷ 0 ∷ 0 ∷ 0 ∷ []
 
 -- the same table read by kind: what each kind makes of the fields that it names, whatever the others hold
-unfoldable pub kinds : Terms → ℕ → ℕ → List (ℕ × Event)
-kinds t second entry =
+unfoldable pub byKind : Entering → ℕ → ℕ → List (ℕ × Event)
+byKind t second entry =
     (1, Plain t)
     ∷ (2, Mmlo t)
     ∷ (3, Mmalo t)
@@ -57,7 +57,7 @@ kinds t second entry =
 abbrev pub claimedBy : List ℕ → Option Event
 claimedBy l =
     lookUp (getD l 0 0)
-    (kinds (record { party = getD l 1 0; sell = eqb (getD l 2 0) 1; price = getD l 3 0; quantity = getD l 4 0 }) (getD l 5 0) (getD l 6 0))
+    (byKind (record { party = getD l 1 0; sell = eqb (getD l 2 0) 1; price = getD l 3 0; quantity = getD l 4 0 }) (getD l 5 0) (getD l 6 0))
 
 -- whether values are in range is not asked here: that is refusal 2, 3 or 4
 abbrev pub messages : Codec Event

@@ -17,32 +17,32 @@ abbrev pub widths : List ℕ
 widths = 3 ∷ 5 ∷ 1 ∷ 7 ∷ 20 ∷ 20 ∷ 17 ∷ 17 ∷ 17 ∷ 5 ∷ []
 
 -- a report's nine fields in their order, as the session program prints them
-abbrev pub row : ℕ → ℕ → Bool → ℕ → ℕ → ℕ → ℕ → ℕ → ℕ → List ℕ
-row kind reason sell party entry other price second quantity =
+abbrev pub nineFields : ℕ → ℕ → Bool → ℕ → ℕ → ℕ → ℕ → ℕ → ℕ → List ℕ
+nineFields kind reason sell party entry other price second quantity =
     kind ∷ reason ∷ bit sell ∷ party ∷ entry ∷ other ∷ price ∷ second ∷ quantity ∷ []
 
 -- THE TABLE of document 01: the number of each case and its fields. "Kinds 2, 4, 5, 6 carry the entry's side, party and number, and
 -- 2 and 6 the reason." "Unnamed fields are 0."
 abbrev pub fieldsOf : Report → List ℕ
 -- "1 noted (kinds 9-12; rest zero)"
-fieldsOf Noted = row 1 0 false 0 0 0 0 0 0
+fieldsOf Noted = nineFields 1 0 false 0 0 0 0 0 0
 -- "2 rejected: limit in price, entered quantity"
-fieldsOf (Rejected reason sell party entry limit quantity) = row 2 reason sell party entry 0 limit 0 quantity
+fieldsOf (Rejected reason sell party entry limit quantity) = nineFields 2 reason sell party entry 0 limit 0 quantity
 -- "3 traded: taker's side, party, entry; resting entry as other; price; quantity traded"
-fieldsOf (Traded sell party entry other price quantity) = row 3 0 sell party entry other price 0 quantity
+fieldsOf (Traded sell party entry other price quantity) = nineFields 3 0 sell party entry other price 0 quantity
 -- "4 rested and 5 repriced: display, working, quantity left"
-fieldsOf (Rested sell party entry display working quantity) = row 4 0 sell party entry 0 display working quantity
-fieldsOf (Repriced sell party entry display working quantity) = row 5 0 sell party entry 0 display working quantity
+fieldsOf (Rested sell party entry display working quantity) = nineFields 4 0 sell party entry 0 display working quantity
+fieldsOf (Repriced sell party entry display working quantity) = nineFields 5 0 sell party entry 0 display working quantity
 -- "6 cancelled: limit, quantity cancelled"
-fieldsOf (Cancelled reason sell party entry limit quantity) = row 6 reason sell party entry 0 limit 0 quantity
+fieldsOf (Cancelled reason sell party entry limit quantity) = nineFields 6 reason sell party entry 0 limit 0 quantity
 
 -- behind them stand the zero bits
 abbrev pub codeOf : Report → List ℕ
 codeOf r = fieldsOf r ++ (0 ∷ [])
 
 -- the same table read by kind: what each kind makes of the fields that it names, whatever the others hold
-unfoldable pub kinds : ℕ → Bool → ℕ → ℕ → ℕ → ℕ → ℕ → ℕ → List (ℕ × Report)
-kinds reason sell party entry other price second quantity =
+unfoldable pub byKind : ℕ → Bool → ℕ → ℕ → ℕ → ℕ → ℕ → ℕ → List (ℕ × Report)
+byKind reason sell party entry other price second quantity =
     (1, Noted)
     ∷ (2, Rejected reason sell party entry price quantity)
     ∷ (3, Traded sell party entry other price quantity)
@@ -54,7 +54,7 @@ kinds reason sell party entry other price second quantity =
 -- the fields in the report's order: kind, reason, side, party, entry, other entry, price, second, quantity
 abbrev pub kindsOf : List ℕ → List (ℕ × Report)
 kindsOf l =
-    kinds (getD l 1 0) (eqb (getD l 2 0) 1) (getD l 3 0) (getD l 4 0) (getD l 5 0) (getD l 6 0) (getD l 7 0) (getD l 8 0)
+    byKind (getD l 1 0) (eqb (getD l 2 0) 1) (getD l 3 0) (getD l 4 0) (getD l 5 0) (getD l 6 0) (getD l 7 0) (getD l 8 0)
 
 abbrev pub claimedBy : List ℕ → Option Report
 claimedBy l = lookUp (getD l 0 0) (kindsOf l)

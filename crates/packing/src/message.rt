@@ -3,10 +3,10 @@ ghost use mathlib.Core.Path.{_≡_};
 ghost use Prim.Native.Nat.{_≤_};
 ghost use lib.ListN.{length, take};
 ghost use Rattle.packing.specs.Codec.{lookUp, fieldsIn, bytesOf, thingOf, unpackOf, packOf, answerOf};
-ghost use Rattle.packing.specs.Message.{messages, termsCode, codeOf, kinds, claimedBy, messageAt, unpacked, packed, saidBy};
+ghost use Rattle.packing.specs.Message.{messages, enteringCode, codeOf, byKind, claimedBy, messageAt, unpacked, packed, saidBy};
 
 // What a quote or an order says.
-pub struct Terms {
+pub struct Entering {
     pub party: u32,
     pub sell: bool,
     pub price: u32,
@@ -16,12 +16,12 @@ pub struct Terms {
 // What a message says: one case for each kind, in the order of the kinds' numbers 1 to 12. The numbers are as the message holds
 // them: whether they are in range is not asked here.
 pub enum Event {
-    Plain(Terms),
-    Mmlo(Terms),
-    Mmalo(Terms),
-    Mmrp(Terms),
-    Displayed(Terms),
-    Dark(Terms),
+    Plain(Entering),
+    Mmlo(Entering),
+    Mmalo(Entering),
+    Mmrp(Entering),
+    Displayed(Entering),
+    Dark(Entering),
     CancelEntry { party: u32, entry: u32 },
     CancelQuote { party: u32, sell: bool },
     Away { bid: u32, offer: u32 },
@@ -65,8 +65,8 @@ fn write(xs: [u32; 8]) -> [u8; SIZE]
     out
 }
 
-fn terms_code(kind: u32, t: Terms) -> [u32; 8]
-    ensures { λ r. ⌜ r ≡ termsCode kind t ⌝ }
+fn entering_code(kind: u32, t: Entering) -> [u32; 8]
+    ensures { λ r. ⌜ r ≡ enteringCode kind t ⌝ }
 {
     [kind, t.party, t.sell as u32, t.price, t.quantity, 0, 0, 0]
 }
@@ -76,12 +76,12 @@ fn code(e: Event) -> [u32; 8]
     ensures { λ r. ⌜ r ≡ codeOf e ⌝ }
 {
     match e {
-        Event::Plain(t) => terms_code(1, t),
-        Event::Mmlo(t) => terms_code(2, t),
-        Event::Mmalo(t) => terms_code(3, t),
-        Event::Mmrp(t) => terms_code(4, t),
-        Event::Displayed(t) => terms_code(5, t),
-        Event::Dark(t) => terms_code(6, t),
+        Event::Plain(t) => entering_code(1, t),
+        Event::Mmlo(t) => entering_code(2, t),
+        Event::Mmalo(t) => entering_code(3, t),
+        Event::Mmrp(t) => entering_code(4, t),
+        Event::Displayed(t) => entering_code(5, t),
+        Event::Dark(t) => entering_code(6, t),
         Event::CancelEntry { party, entry } => [7, party, 0, 0, 0, 0, entry, 0],
         Event::CancelQuote { party, sell } => [8, party, sell as u32, 0, 0, 0, 0, 0],
         Event::Away { bid, offer } => [9, 0, 0, bid, 0, offer, 0, 0],
@@ -92,8 +92,8 @@ fn code(e: Event) -> [u32; 8]
 }
 
 // The event of a kind, from the fields that the kind names.
-fn event_by(kind: u32, t: Terms, second: u32, entry: u32) -> Unpacked
-    ensures { λ r. ⌜ r ≡ unpacked (lookUp kind (kinds t second entry)) ⌝ }
+fn event_by(kind: u32, t: Entering, second: u32, entry: u32) -> Unpacked
+    ensures { λ r. ⌜ r ≡ unpacked (lookUp kind (byKind t second entry)) ⌝ }
 {
     let party = t.party;
     let sell = t.sell;
@@ -129,7 +129,7 @@ fn claimed(xs: [u32; 8]) -> Unpacked
     let quantity = xs[4];
     let second = xs[5];
     let entry = xs[6];
-    let t = Terms {
+    let t = Entering {
         party,
         sell,
         price,

@@ -5,7 +5,7 @@ ghost use lib.Dec.{leb};
 ghost use lib.ListN.{length, drop, getD, replicate};
 ghost use mathlib.Core.Bool.{cond};
 ghost use Rattle.packing.specs.Codec.{lookUp, fieldsIn, bytesOf, thingOf, unpackOf, packOf, answerOf};
-ghost use Rattle.packing.specs.Report.{reports, fieldsOf, codeOf, kindsOf, claimedBy, unpacked, packed, saidBy, row as Report·row};
+ghost use Rattle.packing.specs.Report.{reports, fieldsOf, codeOf, kindsOf, claimedBy, unpacked, packed, saidBy, nineFields};
 
 // What happened to an entry: one case for each kind, in the order of the kinds' numbers 1 to 6.
 pub enum Report {
@@ -98,7 +98,7 @@ fn row(
     second: u32,
     quantity: u32,
 ) -> [u32; 9]
-    ensures { λ r. ⌜ r ≡ Report·row kind reason sell party entry other price second quantity ⌝ }
+    ensures { λ r. ⌜ r ≡ nineFields kind reason sell party entry other price second quantity ⌝ }
 {
     let side = sell as u32;
     [

@@ -3,7 +3,7 @@ ghost use mathlib.Core.Path.{_≡_};
 ghost use Prim.Native.Nat.{_≤_};
 ghost use lib.ListN.{length};
 ghost use Rattle.packing.specs.Codec.{fieldsIn, bytesOf, thingOf, unpackOf, packOf, answerOf};
-ghost use Rattle.packing.specs.Setup.{setups, codeOf, legal, unpacked, packed, saidBy};
+ghost use Rattle.packing.specs.Setup.{setups, codeOf, legalSetup, unpacked, packed, saidBy};
 
 pub struct Setup {
     pub put: bool,
@@ -55,7 +55,7 @@ fn code(s: Setup) -> [u32; 6]
 }
 
 fn is_legal(s: Setup) -> bool
-    ensures { λ r. ⌜ r ≡ legal s ⌝ }
+    ensures { λ r. ⌜ r ≡ legalSetup s ⌝ }
 {
     ((s.m == 1) | ((s.m == 5) | (s.m == 10)))
         & ((s.k <= 100) & ((1 <= s.strike) & (s.strike <= 100000)))

@@ -9,7 +9,7 @@ use lib.Dec.{eqb, ltb}
 use Rattle.prices.specs.Side.{keen, reaches}
 use Rattle.prices.specs.Ease.{beyond, easedTo, eases}
 use Rattle.prices.proofs.FrameLaws.{seen, seen-inj, seen-high, seen-keen, keen-either, reaches-true, reaches-false}
-use Rattle.prices.proofs.StepLaws.{Mpv, Legal, Given, present}
+use Rattle.prices.proofs.StepLaws.{Mpv, Legal, NoneOrLegal, present}
 use Rattle.prices.proofs.AimLaws.{unbound, faced, back-mono}
 use Rattle.prices.proofs.RestLaws.{Slides, Eased}
 use Rattle.lists.proofs.Bools.{clash, and-left, and-right}
@@ -18,7 +18,7 @@ left-alone : (s : Bool) (a d w : ℕ) → beyond s a w ≡ false → eases s a d
 unfolding eases easedTo
 left-alone s a d w q = rw (q, eq-eqb w w refl)
 
-module _ {m l a d w : ℕ} (s : Bool) (v : Mpv m) (ga : Given m a) (sl : Slides m s l d w) where
+module _ {m l a d w : ℕ} (s : Bool) (v : Mpv m) (ga : NoneOrLegal m a) (sl : Slides m s l d w) where
   within : beyond s a w ≡ false → seen s w ≤ faced s a
   unfolding faced
   within e = go (eqb a 0) (reaches s a w) refl e
@@ -45,9 +45,9 @@ module _ {m l a d w : ℕ} (s : Bool) (v : Mpv m) (ga : Given m a) (sl : Slides 
       la = ga .legal (not-true (eqb a 0) (and-left (not (eqb a 0)) (not (reaches s a w)) e))
 
   -- a quote that easing leaves alone is eased
-  pub calm-eased : eases s a d w ≡ false → Eased s a d w
+  pub uneased-eased : eases s a d w ≡ false → Eased s a d w
   unfolding eases faced
-  calm-eased e = record { eased = go (beyond s a w) refl (eqb-true w (easedTo s a d w) (not-false (eqb w (easedTo s a d w)) e)) }
+  uneased-eased e = record { eased = go (beyond s a w) refl (eqb-true w (easedTo s a d w) (not-false (eqb w (easedTo s a d w)) e)) }
     where
       dropped : Drops → w ≡ easedTo s a d w → seen s w ≤ max (seen s d) (cond (eqb a 0) unbound (seen s a))
       dropped k h = rw (present v (k .away)) (omega (arith, ap (seen s) (h ∙ k .to), seen-keen s d a))
@@ -60,9 +60,9 @@ module _ {m l a d w : ℕ} (s : Bool) (v : Mpv m) (ga : Given m a) (sl : Slides 
 pub record Dropped (m : ℕ) (s : Bool) (l a d w w′ : ℕ) : Type 0 where
   pub slides : Slides m s l d w′
   pub less : seen s w′ < seen s w
-  pub calm : eases s a d w′ ≡ false
+  pub uneased : eases s a d w′ ≡ false
 
-module _ {m l a d w : ℕ} (s : Bool) (v : Mpv m) (ga : Given m a) (sl : Slides m s l d w) where
+module _ {m l a d w : ℕ} (s : Bool) (v : Mpv m) (ga : NoneOrLegal m a) (sl : Slides m s l d w) where
   -- easing again changes nothing
   once : (k : Drops s v ga sl) → eases s a d (keen s d a) ≡ false
   unfolding eases easedTo
@@ -84,7 +84,7 @@ module _ {m l a d w : ℕ} (s : Bool) (v : Mpv m) (ga : Given m a) (sl : Slides 
       inside = omega (arith, le, sl .inside);
     };
     less = less;
-    calm = once k;
+    uneased = once k;
   }
     where
       works : Legal m (keen s d a)

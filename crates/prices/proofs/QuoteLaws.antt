@@ -9,14 +9,14 @@ use lib.Dec.{eqb}
 use Rattle.prices.specs.declared.Prices.{Prices}
 use Rattle.prices.specs.Side.{reaches}
 use Rattle.prices.specs.Aims.{minds, minded, aims}
-use Rattle.prices.specs.Rest.{marketable, resting, atRest, restless}
+use Rattle.prices.specs.Rest.{marketable, restingPrices, atRest, stirsAt}
 use Rattle.prices.proofs.FrameLaws.{seen, seen-high, reaches-false, unreached}
-use Rattle.prices.proofs.StepLaws.{Mpv, Legal, Given}
+use Rattle.prices.proofs.StepLaws.{Mpv, Legal, NoneOrLegal}
 use Rattle.prices.proofs.AimLaws.{unbound, faced, before, before-lt, before-grid, before-mono, Aimed, aimed}
 use Rattle.prices.proofs.RestLaws.{Slides, Eased, AtRest, reach, moved-rests, moved-eased, moved-on, moved-short, moved-slides, rest-is, is-rest}
 use Rattle.lists.proofs.Bools.{or-false-right}
 
-module _ {m c : ℕ} (kind : ℕ) (s : Bool) (v : Mpv m) (gc : Given m c) where
+module _ {m c : ℕ} (kind : ℕ) (s : Bool) (v : Mpv m) (gc : NoneOrLegal m c) where
   -- a legal price short of the contra price is at most one step before the contra price that the kind minds
   pub minded-grid : {w : ℕ} → Legal m w → seen s w < faced s c → seen s w ≤ before m s (minded kind c)
   unfolding minded before
@@ -55,7 +55,7 @@ pub minding-rests : (kind : ℕ) (s : Bool) (c : ℕ) (p : Prices) → minds kin
 unfolding marketable
 minding-rests kind s c p e = rw e
 
-minded-mono : {m c c′ : ℕ} (kind : ℕ) (s : Bool) → Mpv m → Given m c → Given m c′ → faced s c′ ≤ faced s c
+minded-mono : {m c c′ : ℕ} (kind : ℕ) (s : Bool) → Mpv m → NoneOrLegal m c → NoneOrLegal m c′ → faced s c′ ≤ faced s c
     → before m s (minded kind c′) ≤ before m s (minded kind c)
 unfolding minded
 minded-mono {m} {c} {c′} kind s v gc gd h = go (minds kind)
@@ -64,39 +64,39 @@ minded-mono {m} {c} {c′} kind s v gc gd h = go (minds kind)
     go true = before-mono s v gd gc h
     go false = omega arith
 
-module _ {m l a c d w : ℕ} (kind : ℕ) (s : Bool) (v : Mpv m) (ga : Given m a) (gc : Given m c) (sl : Slides m s l d w) where
+module _ {m l a c d w : ℕ} (kind : ℕ) (s : Bool) (v : Mpv m) (ga : NoneOrLegal m a) (gc : NoneOrLegal m c) (sl : Slides m s l d w) where
   pub aim-aimed : Aimed m s l a (minded kind c) (aims m kind s l a c)
   aim-aimed = aimed kind s v (sl .limit) ga gc
 
-  -- ---- restless, or calm ----
+  -- ---- stirring, or not ----
 
-  pub calm-rests : restless m kind s l a c d w ≡ false → AtRest s d w (aims m kind s l a c)
-  unfolding restless
-  calm-rests e = is-rest s d w (aims m kind s l a c)
+  pub unstirred-rests : stirsAt m kind s l a c d w ≡ false → AtRest s d w (aims m kind s l a c)
+  unfolding stirsAt
+  unstirred-rests e = is-rest s d w (aims m kind s l a c)
       (not-false (atRest s d w (aims m kind s l a c))
       (or-false-right (marketable kind s c (aims m kind s l a c)) (not (atRest s d w (aims m kind s l a c))) e))
 
   pub short-reach : Eased s a d w → seen s w < faced s c → seen s w ≤ max (seen s d) (seen s (aims m kind s l a c .working))
   short-reach e h = reach s v ga (aims m kind s l a c) aim-aimed sl e (minded-grid kind s v gc (sl .works) h)
 
-  pub rests-calm : Eased s a d w → seen s w < faced s c → AtRest s d w (aims m kind s l a c) → restless m kind s l a c d w ≡ false
-  unfolding restless
-  rests-calm e h r = rw (
+  pub rests-unstirred : Eased s a d w → seen s w < faced s c → AtRest s d w (aims m kind s l a c) → stirsAt m kind s l a c d w ≡ false
+  unfolding stirsAt
+  rests-unstirred e h r = rw (
     not-marketable kind s v gc w (aims m kind s l a c) (r .working) h,
     rest-is s v ga (aims m kind s l a c) aim-aimed sl r (short-reach e h),
   )
 
 -- a contra price that comes closer only lowers the aims: a quote at rest stays at rest
-pub calm-stays : {m l a c c′ d w : ℕ} (kind : ℕ) (s : Bool) → Mpv m → Given m a → Given m c → Given m c′ → Slides m s l d w → Eased s a d w
-    → faced s c′ ≤ faced s c → seen s w < faced s c′ → restless m kind s l a c d w ≡ false → restless m kind s l a c′ d w ≡ false
-calm-stays {m} {l} {a} {c} {c′} {d} {w} kind s v ga gc gd sl ez closer h e =
-    rests-calm kind s v ga gd sl ez h (record {
+pub unstirred-stays : {m l a c c′ d w : ℕ} (kind : ℕ) (s : Bool) → Mpv m → NoneOrLegal m a → NoneOrLegal m c → NoneOrLegal m c′ → Slides m s l d w → Eased s a d w
+    → faced s c′ ≤ faced s c → seen s w < faced s c′ → stirsAt m kind s l a c d w ≡ false → stirsAt m kind s l a c′ d w ≡ false
+unstirred-stays {m} {l} {a} {c} {c′} {d} {w} kind s v ga gc gd sl ez closer h e =
+    rests-unstirred kind s v ga gd sl ez h (record {
       display = omega (arith, r .display, x .display-is, y .display-is, fall);
       working = omega (arith, r .working, x .working-is, y .working-is, fall);
     })
   where
     r : AtRest s d w (aims m kind s l a c)
-    r = calm-rests kind s v ga gc sl e
+    r = unstirred-rests kind s v ga gc sl e
 
     x : Aimed m s l a (minded kind c) (aims m kind s l a c)
     x = aim-aimed kind s v ga gc sl
@@ -114,16 +114,16 @@ pub record Moved (m kind : ℕ) (s : Bool) (l a c w : ℕ) (p : Prices) : Type 0
   pub eased : Eased s a (p .display) (p .working)
   pub short : seen s (p .working) < faced s c
   pub on : seen s w ≤ seen s (p .working)
-  pub calm : restless m kind s l a c (p .display) (p .working) ≡ false
+  pub unstirred : stirsAt m kind s l a c (p .display) (p .working) ≡ false
 
-pub moves : {m l a c d w : ℕ} (kind : ℕ) (s : Bool) → Mpv m → Given m a → Given m c → Slides m s l d w → Eased s a d w → seen s w < faced s c
-    → marketable kind s c (aims m kind s l a c) ≡ false → Moved m kind s l a c w (resting s d (aims m kind s l a c))
+pub moves : {m l a c d w : ℕ} (kind : ℕ) (s : Bool) → Mpv m → NoneOrLegal m a → NoneOrLegal m c → Slides m s l d w → Eased s a d w → seen s w < faced s c
+    → marketable kind s c (aims m kind s l a c) ≡ false → Moved m kind s l a c w (restingPrices s d (aims m kind s l a c))
 moves {m} {l} {a} {c} {d} {w} kind s v ga gc sl ez h e = record {
   slides = slides′;
   eased = eased′;
   short = short′;
   on = moved-on s v ga p ai sl (short-reach kind s v ga gc sl ez h);
-  calm = rests-calm kind s v ga gc slides′ eased′ short′ (moved-rests s d p);
+  unstirred = rests-unstirred kind s v ga gc slides′ eased′ short′ (moved-rests s d p);
 }
   where
     p : Prices
@@ -132,11 +132,11 @@ moves {m} {l} {a} {c} {d} {w} kind s v ga gc sl ez h e = record {
     ai : Aimed m s l a (minded kind c) (aims m kind s l a c)
     ai = aim-aimed kind s v ga gc sl
 
-    slides′ : Slides m s l (resting s d (aims m kind s l a c) .display) (resting s d (aims m kind s l a c) .working)
+    slides′ : Slides m s l (restingPrices s d (aims m kind s l a c) .display) (restingPrices s d (aims m kind s l a c) .working)
     slides′ = moved-slides s v ga p ai sl
 
-    eased′ : Eased s a (resting s d (aims m kind s l a c) .display) (resting s d (aims m kind s l a c) .working)
+    eased′ : Eased s a (restingPrices s d (aims m kind s l a c) .display) (restingPrices s d (aims m kind s l a c) .working)
     eased′ = moved-eased s v ga p ai sl
 
-    short′ : seen s (resting s d (aims m kind s l a c) .working) < faced s c
+    short′ : seen s (restingPrices s d (aims m kind s l a c) .working) < faced s c
     short′ = moved-short s v ga p ai sl (faced s c) h (unmarketable kind s v gc p ai e)

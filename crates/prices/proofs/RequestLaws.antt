@@ -4,7 +4,7 @@ use Prim.Native.Nat.{ℕ}
 use mathlib.Core.Path.{_≡_}
 use mathlib.Core.Bool.{true, _&&_, _||_}
 use lib.Dec.{eqb, leb}
-use Rattle.prices.specs.Step.{mpv, legal, given}
+use Rattle.prices.specs.Step.{mpv, legal, noneOrLegal}
 use Rattle.prices.specs.Aims.{Bounds}
 use Rattle.prices.specs.Request.{asked, pricesLegal}
 use Rattle.lists.proofs.Bools.{and-left, and-right}
@@ -15,6 +15,6 @@ asked-mpv kind side m e = and-right (leb side 1) (mpv m) (and-right (eqb kind 3 
 pub asked-bounds : (kind side l a c m : ℕ) → asked kind side m ≡ true → pricesLegal m l a c ≡ true → Bounds m a c
 asked-bounds kind side l a c m e f = record {
   step = asked-mpv kind side m e;
-  away = and-left (given m a) (given m c) (and-right (legal m l) (given m a && given m c) f);
-  contra = and-right (given m a) (given m c) (and-right (legal m l) (given m a && given m c) f);
+  away = and-left (noneOrLegal m a) (noneOrLegal m c) (and-right (legal m l) (noneOrLegal m a && noneOrLegal m c) f);
+  contra = and-right (noneOrLegal m a) (noneOrLegal m c) (and-right (legal m l) (noneOrLegal m a && noneOrLegal m c) f);
 }

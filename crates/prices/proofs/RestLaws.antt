@@ -10,9 +10,9 @@ use lib.Dec.{eqb, leb}
 use Rattle.prices.specs.declared.Prices.{Prices}
 use Rattle.prices.specs.Side.{keen, reaches}
 use Rattle.prices.specs.Step.{legal, back, lastPrice}
-use Rattle.prices.specs.Rest.{resting, atRest, slides}
+use Rattle.prices.specs.Rest.{restingPrices, atRest, slides}
 use Rattle.prices.proofs.FrameLaws.{seen, seen-inj, seen-keen, keen-either, reaches-true, reached}
-use Rattle.prices.proofs.StepLaws.{Mpv, Legal, Given, is-legal, legal-is, back-lt, back-high, last-legal}
+use Rattle.prices.proofs.StepLaws.{Mpv, Legal, NoneOrLegal, is-legal, legal-is, back-lt, back-high, last-legal}
 use Rattle.prices.proofs.AimLaws.{faced, before, Aimed, aims-order, aims-limit, aims-away, aims-step}
 use Rattle.lists.proofs.Bools.{and-left, and-right}
 
@@ -58,7 +58,7 @@ slides-is {m} {l} {d} {w} s v sl = rw (
 
 -- ---- arrival: the aims of a quote that may be shown are sound prices ----
 
-pub arrives : {m l a x : ℕ} (s : Bool) → Mpv m → Legal m l → Given m a → (p : Prices) → Aimed m s l a x p
+pub arrives : {m l a x : ℕ} (s : Bool) → Mpv m → Legal m l → NoneOrLegal m a → (p : Prices) → Aimed m s l a x p
     → seen s (lastPrice m s) ≤ seen s (p .display) → Slides m s l (p .display) (p .working)
 arrives {m} s v hl ga p ai h = record {
   limit = hl;
@@ -84,23 +84,23 @@ pub record AtRest (s : Bool) (d w : ℕ) (p : Prices) : Type 0 where
   pub working : seen s (p .working) ≤ seen s w
 
 module _ (s : Bool) (d : ℕ) (p : Prices) where
-  pub moved-display : seen s (resting s d p .display) ≡ max (seen s d) (seen s (p .display))
-  unfolding resting
+  pub moved-display : seen s (restingPrices s d p .display) ≡ max (seen s d) (seen s (p .display))
+  unfolding restingPrices
   moved-display = seen-keen s d (p .display)
 
-  pub moved-working : seen s (resting s d p .working) ≡ max (max (seen s d) (seen s (p .display))) (seen s (p .working))
-  unfolding resting
+  pub moved-working : seen s (restingPrices s d p .working) ≡ max (max (seen s d) (seen s (p .display))) (seen s (p .working))
+  unfolding restingPrices
   moved-working = rw (seen-keen s (keen s d (p .display)) (p .working), seen-keen s d (p .display))
 
   -- A DISPLAY NEVER MOVES BACK, whatever the aims
-  pub display-never-back : seen s d ≤ seen s (resting s d p .display)
+  pub display-never-back : seen s d ≤ seen s (restingPrices s d p .display)
   display-never-back = omega (arith, moved-display)
 
-  pub moved-rests : AtRest s (resting s d p .display) (resting s d p .working) p
+  pub moved-rests : AtRest s (restingPrices s d p .display) (restingPrices s d p .working) p
   moved-rests = record { display = omega (arith, moved-display); working = omega (arith, moved-working) }
 
 -- a quote with limit l, display d and working price w, and its aims
-module _ {m l a x d w : ℕ} (s : Bool) (v : Mpv m) (ga : Given m a) (p : Prices) (ai : Aimed m s l a x p) (sl : Slides m s l d w) where
+module _ {m l a x d w : ℕ} (s : Bool) (v : Mpv m) (ga : NoneOrLegal m a) (p : Prices) (ai : Aimed m s l a x p) (sl : Slides m s l d w) where
   -- an eased quote short of the contra price that it minds works no further than its display or its working aim
   pub reach : Eased s a d w → seen s w ≤ before m s x → seen s w ≤ max (seen s d) (seen s (p .working))
   reach e h = go (leb (seen s w) (faced s a)) refl
@@ -115,34 +115,34 @@ module _ {m l a x d w : ℕ} (s : Bool) (v : Mpv m) (ga : Given m a) (p : Prices
           let j : seen s w ≤ seen s d = omega (arith, e .eased) in
           omega arith
 
-  pub moved-eased : Eased s a (resting s d p .display) (resting s d p .working)
+  pub moved-eased : Eased s a (restingPrices s d p .display) (restingPrices s d p .working)
   moved-eased = record { eased = omega (arith, aims-away s v ga p ai, moved-display s d p, moved-working s d p) }
 
   -- a move is never to less aggressive prices
-  pub moved-on : seen s w ≤ max (seen s d) (seen s (p .working)) → seen s w ≤ seen s (resting s d p .working)
+  pub moved-on : seen s w ≤ max (seen s d) (seen s (p .working)) → seen s w ≤ seen s (restingPrices s d p .working)
   moved-on h = omega (arith, moved-working s d p)
 
   -- and stays short of whatever the old working price and the working aim are short of
-  pub moved-short : (c : ℕ) → seen s w < c → seen s (p .working) < c → seen s (resting s d p .working) < c
+  pub moved-short : (c : ℕ) → seen s w < c → seen s (p .working) < c → seen s (restingPrices s d p .working) < c
   moved-short c h k = omega (arith, moved-working s d p, aims-order s v ga p ai, sl .front)
 
-  legal-display : Legal m (resting s d p .display)
-  unfolding resting
+  legal-display : Legal m (restingPrices s d p .display)
+  unfolding restingPrices
   legal-display = keen-either (Legal m) s d (p .display) (sl .shown) (λ h. ai .near-display .legal d (sl .shown) h)
 
-  legal-working : Legal m (resting s d p .working)
-  unfolding resting
-  legal-working = keen-either (Legal m) s (resting s d p .display) (p .working) legal-display
-      (λ h. ai .near-working .legal (resting s d p .display) legal-display h)
+  legal-working : Legal m (restingPrices s d p .working)
+  unfolding restingPrices
+  legal-working = keen-either (Legal m) s (restingPrices s d p .display) (p .working) legal-display
+      (λ h. ai .near-working .legal (restingPrices s d p .display) legal-display h)
 
-  stepped : seen s (back m s (resting s d p .working)) ≤ seen s (resting s d p .display)
-  unfolding resting
-  stepped = keen-either (λ (q : ℕ). seen s (back m s q) ≤ seen s (resting s d p .display)) s (resting s d p .display) (p .working)
+  stepped : seen s (back m s (restingPrices s d p .working)) ≤ seen s (restingPrices s d p .display)
+  unfolding restingPrices
+  stepped = keen-either (λ (q : ℕ). seen s (back m s q) ≤ seen s (restingPrices s d p .display)) s (restingPrices s d p .display) (p .working)
       (omega (arith, back-lt s v legal-display))
-      (λ h. omega (arith, moved-display s d p, aims-step s v ga p ai (ai .near-working .legal (resting s d p .display) legal-display h)))
+      (λ h. omega (arith, moved-display s d p, aims-step s v ga p ai (ai .near-working .legal (restingPrices s d p .display) legal-display h)))
 
   -- resting prices are sound: legal, in order, at most one step apart, not past the limit
-  pub moved-slides : Slides m s l (resting s d p .display) (resting s d p .working)
+  pub moved-slides : Slides m s l (restingPrices s d p .display) (restingPrices s d p .working)
   moved-slides = record {
     limit = sl .limit;
     shown = legal-display;
@@ -155,19 +155,19 @@ module _ {m l a x d w : ℕ} (s : Bool) (v : Mpv m) (ga : Given m a) (p : Prices
   -- AT REST IS TWO INEQUALITIES: for a quote that works no further than its display or its working aim, and the other way round for any
   pub rest-is : AtRest s d w p → seen s w ≤ max (seen s d) (seen s (p .working)) → atRest s d w p ≡ true
   unfolding atRest
-  rest-is r h = rw (eq-eqb d (resting s d p .display) same-display, eq-eqb w (resting s d p .working) same-working)
+  rest-is r h = rw (eq-eqb d (restingPrices s d p .display) same-display, eq-eqb w (restingPrices s d p .working) same-working)
     where
-      same-display : d ≡ resting s d p .display
-      same-display = seen-inj s d (resting s d p .display) (omega (arith, sl .shown .high)) (omega (arith, legal-display .high))
+      same-display : d ≡ restingPrices s d p .display
+      same-display = seen-inj s d (restingPrices s d p .display) (omega (arith, sl .shown .high)) (omega (arith, legal-display .high))
           (omega (arith, moved-display s d p, r .display))
 
-      same-working : w ≡ resting s d p .working
-      same-working = seen-inj s w (resting s d p .working) (omega (arith, sl .works .high)) (omega (arith, legal-working .high))
+      same-working : w ≡ restingPrices s d p .working
+      same-working = seen-inj s w (restingPrices s d p .working) (omega (arith, sl .works .high)) (omega (arith, legal-working .high))
           (omega (arith, moved-working s d p, r .display, r .working, sl .front))
 
 pub is-rest : (s : Bool) (d w : ℕ) (p : Prices) → atRest s d w p ≡ true → AtRest s d w p
 unfolding atRest
 is-rest s d w p h = record {
-  display = omega (arith, moved-display s d p, ap (seen s) (eqb-true d (resting s d p .display) (and-left (eqb d (resting s d p .display)) (eqb w (resting s d p .working)) h)));
-  working = omega (arith, moved-working s d p, ap (seen s) (eqb-true w (resting s d p .working) (and-right (eqb d (resting s d p .display)) (eqb w (resting s d p .working)) h)));
+  display = omega (arith, moved-display s d p, ap (seen s) (eqb-true d (restingPrices s d p .display) (and-left (eqb d (restingPrices s d p .display)) (eqb w (restingPrices s d p .working)) h)));
+  working = omega (arith, moved-working s d p, ap (seen s) (eqb-true w (restingPrices s d p .working) (and-right (eqb d (restingPrices s d p .display)) (eqb w (restingPrices s d p .working)) h)));
 }

@@ -8,7 +8,7 @@ use native.Mathlib.Omega.{arith}
 use borrow.Author.Tests.{leb-true, eqb-true, eqb-false, le-leb, eq-eqb, ne-eqb, not-true, not-false}
 use lib.Dec.{eqb, leb}
 use Rattle.prices.specs.Side.{reaches}
-use Rattle.prices.specs.Step.{mpv, onGrid, legal, given, back, lastPrice, pastLast}
+use Rattle.prices.specs.Step.{mpv, onGrid, legal, noneOrLegal, back, lastPrice, pastLast}
 use Rattle.prices.proofs.FrameLaws.{seen, reaches-true, reaches-false}
 use Rattle.lists.proofs.Bools.{clash, and-left, and-right}
 
@@ -25,7 +25,7 @@ pub record Legal (m p : ℕ) : Type 0 where
   pub grid : p % m ≡ 0
 
 -- none, or legal
-pub record Given (m p : ℕ) : Type 0 where
+pub record NoneOrLegal (m p : ℕ) : Type 0 where
   pub legal : eqb p 0 ≡ false → Legal m p
 
 pub is-mpv : (m : ℕ) → mpv m ≡ true → Mpv m
@@ -50,22 +50,22 @@ pub legal-is : {m p : ℕ} → Legal m p → legal m p ≡ true
 unfolding legal onGrid
 legal-is {m} {p} a = rw (le-leb m p (a .low), le-leb p 100000 (a .high), eq-eqb (p % m) 0 (a .grid))
 
-pub is-given : (m p : ℕ) → given m p ≡ true → Given m p
-unfolding given
-is-given m p h = record { legal = λ e. is-legal m p (rw e at h) }
+pub is-none-or-legal : (m p : ℕ) → noneOrLegal m p ≡ true → NoneOrLegal m p
+unfolding noneOrLegal
+is-none-or-legal m p h = record { legal = λ e. is-legal m p (rw e at h) }
 
-pub given-is : {m p : ℕ} → Given m p → given m p ≡ true
-unfolding given
+pub given-is : {m p : ℕ} → NoneOrLegal m p → noneOrLegal m p ≡ true
+unfolding noneOrLegal
 given-is {m} {p} g = go (eqb p 0) refl
   where
     go : (b : Bool) → eqb p 0 ≡ b → (b || legal m p) ≡ true
     go true e = refl
     go false e = legal-is (g .legal e)
 
-pub given-none : {m : ℕ} → Given m 0
+pub given-none : {m : ℕ} → NoneOrLegal m 0
 given-none = record { legal = λ e. absurd (eqb-false 0 0 e refl) }
 
-pub given-legal : {m p : ℕ} → Legal m p → Given m p
+pub given-legal : {m p : ℕ} → Legal m p → NoneOrLegal m p
 given-legal a = record { legal = λ _. a }
 
 -- multiples of each MPV by constant divisors

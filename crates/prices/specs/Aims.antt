@@ -7,7 +7,7 @@ use mathlib.Core.Path.{_≡_}
 use lib.Dec.{eqb}
 use Rattle.prices.specs.declared.Prices.{Prices}
 use Rattle.prices.specs.Side.{meek}
-use Rattle.prices.specs.Step.{mpv, given, back}
+use Rattle.prices.specs.Step.{mpv, noneOrLegal, back}
 
 -- "Only a sliding kind carries a display price apart from its limit: MMALO and MMRP."
 unfoldable pub sliding : ℕ → Bool
@@ -43,5 +43,5 @@ aims m kind s l a c = record { display = aimDisplay m kind s l a c; working = ai
 -- what a caller has seen to: an MPV, and prices that are none or legal
 pub record Bounds (m a c : ℕ) : Type 0 where
   pub step : mpv m ≡ true
-  pub away : given m a ≡ true
-  pub contra : given m c ≡ true
+  pub away : noneOrLegal m a ≡ true
+  pub contra : noneOrLegal m c ≡ true

@@ -5,7 +5,7 @@ use mathlib.Core.Bool.{Bool, cond, _&&_, _||_}
 use lib.Dec.{eqb, leb}
 use Rattle.prices.specs.declared.Prices.{Prices}
 use Rattle.prices.specs.declared.Answered.{Answered}
-use Rattle.prices.specs.Step.{mpv, legal, given}
+use Rattle.prices.specs.Step.{mpv, legal, noneOrLegal}
 use Rattle.prices.specs.Aims.{aims}
 
 -- "It is refused with 1 for a kind other than 3 and 4, a side above 1 or an M not listed,"
@@ -14,17 +14,17 @@ asked kind side m = (eqb kind 3 || eqb kind 4) && (leb side 1 && mpv m)
 
 -- "then with 3 for an illegal price,"
 abbrev pub pricesLegal : ℕ → ℕ → ℕ → ℕ → Bool
-pricesLegal m limit away contra = legal m limit && (given m away && given m contra)
+pricesLegal m limit away contra = legal m limit && (noneOrLegal m away && noneOrLegal m contra)
 
 -- "and both aims are then 0."
-abbrev pub refused : ℕ → Answered
-refused why = record { refusal = why; display = 0; working = 0 }
+abbrev pub aimsRefused : ℕ → Answered
+aimsRefused why = record { refusal = why; display = 0; working = 0 }
 
-abbrev pub granted : Prices → Answered
-granted aim = record { refusal = 0; display = aim .display; working = aim .working }
+abbrev pub aimsGranted : Prices → Answered
+aimsGranted aim = record { refusal = 0; display = aim .display; working = aim .working }
 
-unfoldable pub answered : ℕ → ℕ → ℕ → ℕ → ℕ → ℕ → Answered
-answered kind side limit away contra m =
+unfoldable pub aimsAnswered : ℕ → ℕ → ℕ → ℕ → ℕ → ℕ → Answered
+aimsAnswered kind side limit away contra m =
     cond (asked kind side m)
-    (cond (pricesLegal m limit away contra) (granted (aims m kind (eqb side 1) limit away contra)) (refused 3))
-    (refused 1)
+    (cond (pricesLegal m limit away contra) (aimsGranted (aims m kind (eqb side 1) limit away contra)) (aimsRefused 3))
+    (aimsRefused 1)

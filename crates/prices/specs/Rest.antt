@@ -14,16 +14,16 @@ marketable kind s c aim = not (minds kind) && (not (eqb c 0) && reaches s (aim .
 
 -- "Resting, its display becomes the higher of its display and the aim; its working price the higher of that new display and the working aim."
 -- "An away offer that falls onto the display leaves it there (003, RPNP Example 4; ..)": the aim is then lower, and the display the higher of the two
-unfoldable pub resting : Bool → ℕ → Prices → Prices
-resting s d aim = record { display = keen s d (aim .display); working = keen s (keen s d (aim .display)) (aim .working) }
+unfoldable pub restingPrices : Bool → ℕ → Prices → Prices
+restingPrices s d aim = record { display = keen s d (aim .display); working = keen s (keen s d (aim .display)) (aim .working) }
 
 -- "at its resting prices"
 unfoldable pub atRest : Bool → ℕ → ℕ → Prices → Bool
-atRest s d w aim = eqb d (resting s d aim .display) && eqb w (resting s d aim .working)
+atRest s d w aim = eqb d (restingPrices s d aim .display) && eqb w (restingPrices s d aim .working)
 
 -- "marketable (MMRP) or not at its resting prices": what settling looks for, of a quote with display d and working price w
-unfoldable pub restless : ℕ → ℕ → Bool → ℕ → ℕ → ℕ → ℕ → ℕ → Bool
-restless m kind s l a c d w = marketable kind s c (aims m kind s l a c) || not (atRest s d w (aims m kind s l a c))
+unfoldable pub stirsAt : ℕ → ℕ → Bool → ℕ → ℕ → ℕ → ℕ → ℕ → Bool
+stirsAt m kind s l a c d w = marketable kind s c (aims m kind s l a c) || not (atRest s d w (aims m kind s l a c))
 
 -- "for MMALO and MMRP, display and working price are legal, working is no less aggressive than display, by at most M, and not beyond the limit"
 unfoldable pub slides : ℕ → Bool → ℕ → ℕ → ℕ → Bool

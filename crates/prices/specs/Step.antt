@@ -18,8 +18,8 @@ unfoldable pub legal : ℕ → ℕ → Bool
 legal m p = leb m p && (leb p 100000 && onGrid m p)
 
 -- a price that may be missing: none, or a legal one
-unfoldable pub given : ℕ → ℕ → Bool
-given m p = eqb p 0 || legal m p
+unfoldable pub noneOrLegal : ℕ → ℕ → Bool
+noneOrLegal m p = eqb p 0 || legal m p
 
 -- one step back: a buy's price "-M", a sell's plus M. "An aim may fall one M outside the legal prices."
 unfoldable pub back : ℕ → Bool → ℕ → ℕ

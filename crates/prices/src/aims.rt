@@ -4,7 +4,7 @@ use crate::side::meeker;
 use crate::step::one_back;
 ghost use mathlib.Core.Path.{_≡_};
 ghost use mathlib.Core.Bool.{true};
-ghost use Rattle.prices.specs.Step.{mpv, given};
+ghost use Rattle.prices.specs.Step.{mpv, noneOrLegal};
 ghost use Rattle.prices.specs.Aims.{sliding, minds, minded, upTo, shortOf, aims, Bounds};
 
 pub fn is_sliding(kind: u32) -> bool
@@ -38,7 +38,7 @@ pub fn held_to(sell: bool, x: u32, p: u32) -> u32
 
 // The price p, held to one step short of x.
 fn held_short(m: u32, sell: bool, x: u32, p: u32) -> u32
-    requires { ⌜ (mpv m ≡ true) × (given m x ≡ true) ⌝ }
+    requires { ⌜ (mpv m ≡ true) × (noneOrLegal m x ≡ true) ⌝ }
     ensures { λ r. ⌜ r ≡ shortOf m sell x p ⌝ }
 {
     if x == 0 {

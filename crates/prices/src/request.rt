@@ -1,13 +1,13 @@
 // The aims of one quote, asked for by number.
 use crate::Answered;
 use crate::aims::aims_of;
-use crate::step::is_given;
 use crate::step::is_legal;
 use crate::step::is_mpv;
+use crate::step::is_none_or_legal;
 ghost use mathlib.Core.Path.{_≡_};
 ghost use mathlib.Core.Bool.{true};
 ghost use Rattle.prices.specs.Step.{mpv};
-ghost use Rattle.prices.specs.Request.{asked, pricesLegal, refused, answered};
+ghost use Rattle.prices.specs.Request.{asked, pricesLegal, aimsRefused, aimsAnswered};
 
 fn is_asked(kind: u32, side: u32, m: u32) -> bool
     ensures { λ r. ⌜ r ≡ asked kind side m ⌝ }
@@ -19,11 +19,11 @@ fn are_prices_legal(m: u32, limit: u32, away: u32, contra: u32) -> bool
     requires { ⌜ mpv m ≡ true ⌝ }
     ensures { λ r. ⌜ r ≡ pricesLegal m limit away contra ⌝ }
 {
-    is_legal(m, limit) & (is_given(m, away) & is_given(m, contra))
+    is_legal(m, limit) & (is_none_or_legal(m, away) & is_none_or_legal(m, contra))
 }
 
 fn refused_with(why: u32) -> Answered
-    ensures { λ r. ⌜ r ≡ refused why ⌝ }
+    ensures { λ r. ⌜ r ≡ aimsRefused why ⌝ }
 {
     Answered {
         refusal: why,
@@ -34,7 +34,7 @@ fn refused_with(why: u32) -> Answered
 
 // The aims of a quote of this kind and side with this limit, before an away price and a contra price (0: none).
 pub fn request_aims(kind: u32, side: u32, limit: u32, away: u32, contra: u32, m: u32) -> Answered
-    ensures { λ r. ⌜ r ≡ answered kind side limit away contra m ⌝ }
+    ensures { λ r. ⌜ r ≡ aimsAnswered kind side limit away contra m ⌝ }
 {
     if !is_asked(kind, side, m) {
         return refused_with(1);

@@ -10,7 +10,7 @@ ghost use mathlib.Core.Path.{_≡_};
 ghost use mathlib.Core.Bool.{true};
 ghost use Rattle.prices.specs.Step.{mpv};
 ghost use Rattle.prices.specs.Aims.{Bounds};
-ghost use Rattle.prices.specs.Rest.{marketable, resting, atRest, restless, slides};
+ghost use Rattle.prices.specs.Rest.{marketable, restingPrices, atRest, stirsAt, slides};
 
 // Whether a quote has a trade to make: it takes, and aims at the contra price or beyond.
 pub fn is_marketable(kind: u32, sell: bool, contra: u32, aim: Prices) -> bool
@@ -21,7 +21,7 @@ pub fn is_marketable(kind: u32, sell: bool, contra: u32, aim: Prices) -> bool
 
 // Where a resting quote with this display belongs.
 pub fn resting_of(sell: bool, display: u32, aim: Prices) -> Prices
-    ensures { λ r. ⌜ r ≡ resting sell display aim ⌝ }
+    ensures { λ r. ⌜ r ≡ restingPrices sell display aim ⌝ }
 {
     let shown = keener(sell, display, aim.display);
     let working = keener(sell, shown, aim.working);
@@ -39,7 +39,7 @@ pub fn is_at_rest(sell: bool, display: u32, working: u32, aim: Prices) -> bool
 }
 
 // Whether a quote has a trade to make or a price to move.
-pub fn is_restless(
+pub fn is_stirring_at(
     m: u32,
     kind: u32,
     sell: bool,
@@ -50,7 +50,7 @@ pub fn is_restless(
     working: u32,
 ) -> bool
     requires { ⌜ Bounds m away contra ⌝ }
-    ensures { λ r. ⌜ r ≡ restless m kind sell limit away contra display working ⌝ }
+    ensures { λ r. ⌜ r ≡ stirsAt m kind sell limit away contra display working ⌝ }
 {
     let aim = aims_of(m, kind, sell, limit, away, contra);
     is_marketable(kind, sell, contra, aim) | !is_at_rest(sell, display, working, aim)

@@ -3,7 +3,7 @@ use crate::side::is_reaching;
 ghost use mathlib.Core.Path.{_≡_};
 ghost use mathlib.Core.Bool.{true};
 ghost use Prim.Native.Nat.{_-_, _≤_};
-ghost use Rattle.prices.specs.Step.{mpv, onGrid, legal, given, back, lastPrice, pastLast, apart, allowed};
+ghost use Rattle.prices.specs.Step.{mpv, onGrid, legal, noneOrLegal, back, lastPrice, pastLast, apart, allowed};
 
 pub fn is_mpv(m: u32) -> bool
     ensures { λ r. ⌜ r ≡ mpv m ⌝ }
@@ -26,9 +26,9 @@ pub fn is_legal(m: u32, p: u32) -> bool
     (m <= p) & ((p <= 100000) & is_on_grid(m, p))
 }
 
-pub fn is_given(m: u32, p: u32) -> bool
+pub fn is_none_or_legal(m: u32, p: u32) -> bool
     requires { ⌜ mpv m ≡ true ⌝ }
-    ensures { λ r. ⌜ r ≡ given m p ⌝ }
+    ensures { λ r. ⌜ r ≡ noneOrLegal m p ⌝ }
 {
     (p == 0) | is_legal(m, p)
 }

@@ -19,7 +19,7 @@ use Rattle.lists.proofs.Bools.{and-left, and-right}
 use Rattle.packing.specs.declared.setup.Setup.{Setup}
 use Rattle.packing.specs.Codec.{fieldsIn, checked, thingOf, unpackOf}
 use Rattle.packing.proofs.CodecLaws.{onlyIf-some}
-use Rattle.packing.specs.Setup.{codeOf, legal, setups}
+use Rattle.packing.specs.Setup.{codeOf, legalSetup, setups}
 use Rattle.soundness_theory.specs.Sound.{between, soundEntries}
 use Rattle.soundness_theory.proofs.SoundFacts.{between-both}
 use Rattle.series.specs.Series.{newSeries, noSeries, opened, soundTerms, soundSeries}
@@ -29,23 +29,23 @@ use Rattle.series.proofs.SoundSeriesDecides.{sound-series-decides}
 use Rattle.series.proofs.SeriesFacts.{facts-series}
 
 -- "Setup of other length or values is refused": what unpacks has legal values
-pub setup-legal : (bytes : List ℕ) (x : Setup) → unpackOf setups bytes ≡ some x → legal x ≡ true
+pub setup-legal : (bytes : List ℕ) (x : Setup) → unpackOf setups bytes ≡ some x → legalSetup x ≡ true
 unfolding unpackOf thingOf
 setup-legal bytes x h = go (setups .claimed (fieldsIn setups bytes)) (onlyIf-some (eqb (length bytes) 4) (thingOf setups (fieldsIn setups bytes)) x h .1)
   where
     l : List ℕ
     l = fieldsIn setups bytes
 
-    go : (u : Option Setup) → checked setups u l ≡ some x → legal x ≡ true
+    go : (u : Option Setup) → checked setups u l ≡ some x → legalSetup x ≡ true
     go none k = absurd (let z : _≡_ {A = ℕ} 0 1 = cc in omega arith)
     go (some d) k =
-        let p = onlyIf-some (equal (codeOf d) l && legal d) (some d) x k in
+        let p = onlyIf-some (equal (codeOf d) l && legalSetup d) (some d) x k in
         let q : some d ≡ some x = p .1 in
         let same : d ≡ x = cc in
-        ap legal (sym same) ∙ and-right (equal (codeOf d) l) (legal d) (p .0)
+        ap legalSetup (sym same) ∙ and-right (equal (codeOf d) l) (legalSetup d) (p .0)
 
 -- legal values give a sound series
-pub legal-sound : (x : Setup) → legal x ≡ true → soundSeries (newSeries x) ≡ true
+pub legal-sound : (x : Setup) → legalSetup x ≡ true → soundSeries (newSeries x) ≡ true
 unfolding mpv soundEntries all pairs
 legal-sound x h =
     let step : Bool = eqb (x .m) 1 || (eqb (x .m) 5 || eqb (x .m) 10) in

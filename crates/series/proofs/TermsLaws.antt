@@ -9,7 +9,7 @@ use native.Mathlib.Omega.{arith}
 use lib.Dec.{eqb, leb}
 use lib.ListN.{length}
 use borrow.Author.Tests.{leb-true, le-leb, eqb-true, not-true}
-use Rattle.prices.specs.Step.{mpv, legal, given}
+use Rattle.prices.specs.Step.{mpv, legal, noneOrLegal}
 use Rattle.prices.proofs.StepLaws.{Mpv, cent, nickel, dime, is-mpv}
 use Rattle.lists.specs.Tests.{any}
 use Rattle.lists.proofs.Bools.{and-parts}
@@ -37,16 +37,16 @@ step-mpv (inl e) = rw e
 step-mpv (inr (inl e)) = rw e
 step-mpv (inr (inr e)) = rw e
 
-pub given-price : (m p : ℕ) → given m p ≡ true → NoneOrLegal m p
-unfolding given
+pub given-price : (m p : ℕ) → noneOrLegal m p ≡ true → NoneOrLegal m p
+unfolding noneOrLegal
 given-price m p h = go (eqb p 0) refl h
   where
     go : (b : Bool) → eqb p 0 ≡ b → (b || legal m p) ≡ true → NoneOrLegal m p
     go true e g = inl (eqb-true p 0 e)
     go false e g = inr (legal-price m p g)
 
-pub price-given : (m p : ℕ) → NoneOrLegal m p → given m p ≡ true
-unfolding given
+pub price-given : (m p : ℕ) → NoneOrLegal m p → noneOrLegal m p ≡ true
+unfolding noneOrLegal
 price-given m p (inl e) = rw e
 price-given m p (inr l) = go (eqb p 0)
   where
@@ -59,16 +59,16 @@ module _ (t : Terms) where
   unfolding soundTerms
   terms-facts h =
       let h₇ : Bool = leb (t .underlying) 100000 && leb (t .given) 1000000 in
-      let h₆ : Bool = given (t .m) (t .offer) && h₇ in
-      let h₅ : Bool = given (t .m) (t .bid) && h₆ in
+      let h₆ : Bool = noneOrLegal (t .m) (t .offer) && h₇ in
+      let h₅ : Bool = noneOrLegal (t .m) (t .bid) && h₆ in
       let h₄ : Bool = leb (t .phase) 2 && h₅ in
       let h₃ : Bool = between 1 100000 (t .strike) && h₄ in
       let a = and-parts (mpv (t .m)) (leb (t .k) 100 && h₃) h in
       let b = and-parts (leb (t .k) 100) h₃ (a .1) in
       let c = and-parts (between 1 100000 (t .strike)) h₄ (b .1) in
       let d = and-parts (leb (t .phase) 2) h₅ (c .1) in
-      let e = and-parts (given (t .m) (t .bid)) h₆ (d .1) in
-      let f = and-parts (given (t .m) (t .offer)) h₇ (e .1) in
+      let e = and-parts (noneOrLegal (t .m) (t .bid)) h₆ (d .1) in
+      let f = and-parts (noneOrLegal (t .m) (t .offer)) h₇ (e .1) in
       let g = and-parts (leb (t .underlying) 100000) (leb (t .given) 1000000) (f .1) in (
         record {
           step = mpv-step (is-mpv (t .m) (a .0));

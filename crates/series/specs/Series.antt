@@ -6,7 +6,7 @@ use mathlib.Core.List.{List, []}
 use mathlib.Core.Option.{Option, none, some}
 use lib.Dec.{eqb, leb}
 use lib.ListN.{length, replicate}
-use Rattle.prices.specs.Step.{mpv, given}
+use Rattle.prices.specs.Step.{mpv, noneOrLegal}
 use Rattle.lists.specs.Tests.{any}
 use Rattle.packing.specs.Codec.{nothing}
 use Rattle.packing.specs.declared.setup.Setup.{Setup}
@@ -53,7 +53,7 @@ opened (some s) = record { refusal = 0; series = newSeries s }
 unfoldable pub soundTerms : Terms → Bool
 soundTerms t =
     mpv (t .m) && (leb (t .k) 100 && (between 1 100000 (t .strike) && (leb (t .phase) 2
-    && (given (t .m) (t .bid) && (given (t .m) (t .offer) && (leb (t .underlying) 100000 && leb (t .given) 1000000))))))
+    && (noneOrLegal (t .m) (t .bid) && (noneOrLegal (t .m) (t .offer) && (leb (t .underlying) 100000 && leb (t .given) 1000000))))))
 
 -- "closed means nothing rests, halted means no quote rests"
 unfoldable pub soundPhase : ℕ → List Entry → Bool

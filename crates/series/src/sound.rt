@@ -1,7 +1,7 @@
 // Whether a series handed in is sound, however damaged.
 use crate::Series;
-use prices::step::is_given;
 use prices::step::is_mpv;
+use prices::step::is_none_or_legal;
 use soundness::Check;
 use soundness::check_book;
 use soundness::figures::broken;
@@ -28,8 +28,8 @@ fn are_terms_sound(t: Terms) -> bool
     (t.k <= 100)
         & (is_between(1, 100000, t.strike)
             & ((t.phase <= 2)
-                & (is_given(t.m, t.bid)
-                    & (is_given(t.m, t.offer)
+                & (is_none_or_legal(t.m, t.bid)
+                    & (is_none_or_legal(t.m, t.offer)
                         & ((t.underlying <= 100000) & (t.given <= 1000000))))))
 }
 

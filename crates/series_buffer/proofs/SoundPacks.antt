@@ -9,8 +9,8 @@ use native.Mathlib.Omega.{arith}
 use lib.Dec.{eqb, leb}
 use borrow.Author.Tests.{eqb-true}
 use lib.ListN.{length, take, drop, replicate, take-append-drop}
-use Rattle.prices.specs.Step.{given}
-use Rattle.prices.proofs.StepLaws.{is-mpv, small, is-given}
+use Rattle.prices.specs.Step.{noneOrLegal}
+use Rattle.prices.proofs.StepLaws.{is-mpv, small, is-none-or-legal}
 use Rattle.lists.proofs.Bools.{and-left, and-right}
 use Rattle.lists.specs.Tests.{All, all}
 use Rattle.lists.proofs.TestLaws.{all-map, all-append, all-true, true-all}
@@ -90,12 +90,12 @@ module _ (s : Series) (sound : soundSeries s ≡ true) (places : length (s .book
   facts : SeriesFacts s
   facts = series-facts s sound
 
-  given-few : (p : ℕ) → given (s .terms .m) p ≡ true → p ≤ 100000
+  given-few : (p : ℕ) → noneOrLegal (s .terms .m) p ≡ true → p ≤ 100000
   given-few p g = by (eqb p 0) refl
     where
       by : (b : Bool) → eqb p 0 ≡ b → p ≤ 100000
       by true q = omega (arith, eqb-true p 0 q)
-      by false q = is-given (s .terms .m) p g .legal q .high
+      by false q = is-none-or-legal (s .terms .m) p g .legal q .high
 
   header-packs : packs headers (headerOf s) ≡ true
   header-packs =

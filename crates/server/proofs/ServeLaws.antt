@@ -20,7 +20,7 @@ use Rattle.series.specs.Series.{newSeries, opened}
 use Rattle.series.proofs.SoundSeriesDecides.{sound-series-decides}
 use Rattle.series.proofs.SetupSound.{setup-sound}
 use Rattle.handler.specs.declared.Answer.{Answer}
-use Rattle.handler.specs.Handle.{Handled, answered, handled}
+use Rattle.handler.specs.Handle.{Handled, inRoom, handled}
 use Rattle.handler.proofs.Refusals.{Unchanged, refusals-keep}
 use Rattle.series_buffer.specs.declared.Unpacked.{Unpacked}
 use Rattle.series_buffer.specs.State.{unpackSeries, packsSeries, seriesBytes, packSeries, unpacked, isStored, bufferAfter}
@@ -72,18 +72,18 @@ module _ (state message room : List ℕ) where
     serve-none h =
         sym (inside ∙ ap (serveIn state message room) (holds-none (unpackSeries state) (sym (ap (λ (x : Unpacked). x .ok) is) ∙ h)))
 
-    module _ (ok : u .ok ≡ true) (r : Answer) (after : List ℕ) (answer : answered r after ≡ handled (u .series) message room) where
+    module _ (ok : u .ok ≡ true) (r : Answer) (after : List ℕ) (answer : inRoom r after ≡ handled (u .series) message room) where
       held : unpackSeries state ≡ some (u .series)
       held =
           holds-some (unpackSeries state) (sym (ap (λ (x : Unpacked). x .ok) is) ∙ ok)
           ∙ ap some (sym (ap (λ (x : Unpacked). x .series) is))
 
-      again : packedAgain state (answered r after) ≡ serve state message room
+      again : packedAgain state (inRoom r after) ≡ serve state message room
       again = ap (packedAgain state) answer ∙ sym (inside ∙ ap (serveIn state message room) held)
 
       pub serve-refused : (r .refusal ≡ 0 → ⊥) → Bytes state → served (r .refusal) 0 state after ≡ serve state message room
       serve-refused h b =
-          let kept : Unchanged (u .series) room (answered r after) =
+          let kept : Unchanged (u .series) room (inRoom r after) =
           subst⁻¹ (Unchanged (u .series) room) answer (refusals-keep (u .series) message room (λ k. h (ap (λ (x : Handled). x .answer .refusal) answer ∙ k))) in
           let same : holding state (packSeries (r .series)) ≡ state =
           ap (λ (s : Series). holding state (packSeries s)) (kept .series) ∙ ap (holding state) (series-pack state (u .series) b held) in

@@ -2,7 +2,7 @@
 use prices::request::request_aims;
 ghost use mathlib.Core.Path.{_≡_};
 ghost use Rattle.prices.specs.declared.Answered.{Answered};
-ghost use Rattle.prices.specs.Request.{answered};
+ghost use Rattle.prices.specs.Request.{aimsAnswered};
 
 // Refusal 0, 1 or 3, and both aims written, which are 0 on a refusal. An away or contra price of 0 means none.
 #[no_mangle]
@@ -16,7 +16,7 @@ pub extern "C" fn waxglimmer_aims(
     display: &mut u32,
     working: &mut u32,
 ) -> u32
-    ensures { λ r. ⌜ _≡_ {A = Answered} (record { refusal = r; display = now (display .exit); working = now (working .exit) }) (answered kind side limit away contra m) ⌝ }
+    ensures { λ r. ⌜ _≡_ {A = Answered} (record { refusal = r; display = now (display .exit); working = now (working .exit) }) (aimsAnswered kind side limit away contra m) ⌝ }
 {
     let answer = request_aims(kind, side, limit, away, contra, m);
     *display = answer.display;

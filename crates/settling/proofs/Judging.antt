@@ -6,10 +6,10 @@ use mathlib.Core.Bool.{Bool, true, false, _&&_}
 use mathlib.Core.List.{List, [], _∷_}
 use Rattle.prices.specs.declared.Prices.{Prices}
 use Rattle.prices.specs.declared.Market.{Market}
-use Rattle.prices.specs.Step.{mpv, given}
+use Rattle.prices.specs.Step.{mpv, noneOrLegal}
 use Rattle.prices.specs.Side.{away}
 use Rattle.prices.specs.Aims.{aims}
-use Rattle.prices.specs.Rest.{marketable, resting}
+use Rattle.prices.specs.Rest.{marketable, restingPrices}
 use Rattle.prices.specs.Ease.{easedTo}
 use Rattle.prices.proofs.StepLaws.{given-is}
 use Rattle.lists.specs.Places.{requeue}
@@ -55,7 +55,7 @@ pub watched-bounds : {k own : Market} {b : Book} → Watched k own b → Judged 
 unfolding soundMarket
 watched-bounds {k} {own} {b} w = record {
   bounds = λ s. record {
-    step = and-left (mpv (k .m)) (given (k .m) (k .bid) && given (k .m) (k .offer)) (w .sound .market);
+    step = and-left (mpv (k .m)) (noneOrLegal (k .m) (k .bid) && noneOrLegal (k .m) (k .offer)) (w .sound .market);
     away = given-is (sound-for (w .sound) .0 .given s);
     contra = rw (own-faces k own (entriesOf b) (w .known) s) (given-is (given-contra s (sound-for (w .sound) .1)));
   };
@@ -74,7 +74,7 @@ module _ (k own : Market) (b : Book) (known : own ≡ ownMarket k (entriesOf b))
   market-is p t q r = r ∙ rw (hk, aims-are p q, faces) refl
 
   pub rest-entry : (p r : Prices) {d : ℕ} (e′ : Entry) → p ≡ aims (k .m) kind (e .sell) (e .limit) a c → d ≡ display e
-      → r ≡ resting (e .sell) d p → e′ ≡ priced (record { display = r .display; working = r .working }) e
+      → r ≡ restingPrices (e .sell) d p → e′ ≡ priced (record { display = r .display; working = r .working }) e
       → e′ ≡ priced (restPrices k (entriesOf b) e) e
   rest-entry p r e′ h q s t = t ∙ ap (λ (z : Prices). priced z e) (s ∙ rw (q, aims-are p h) refl)
 
@@ -105,7 +105,7 @@ module _ {k own : Market} {b : Book} {i n : ℕ} {room : List ℕ} (turn : StirT
         → Staged (alone (entriesOf b) (stirAt k (entriesOf b) (found i (entryIn b i)))) room n b′ room′ n′
     trade-staged s = staged-step (entriesOf b) trades s
 
-  module _ (no : t ≡ false) {d : ℕ} (r : Prices) (e′ : Entry) (hd : d ≡ display (entryIn b i)) (hr : r ≡ resting (entryIn b i .sell) d p)
+  module _ (no : t ≡ false) {d : ℕ} (r : Prices) (e′ : Entry) (hd : d ≡ display (entryIn b i)) (hr : r ≡ restingPrices (entryIn b i .sell) d p)
       (he : e′ ≡ priced (record { display = r .display; working = r .working }) (entryIn b i)) where
     rests : stirAt k (entriesOf b) (found i (entryIn b i)) ≡ reprice i (restPrices k (entriesOf b) (entryIn b i)) (entryIn b i) (entriesOf b)
     rests = stir-rests k (entriesOf b) i (entryIn b i) (sym judged ∙ no)

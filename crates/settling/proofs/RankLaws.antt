@@ -20,7 +20,7 @@ use Rattle.book.specs.Look.{rankOf, eligible, priority, working, facing, neares
 use Rattle.book.proofs.LookLaws.{best-tells, lowest-tells, number}
 use Rattle.book.proofs.RankLaws.{Ranked, rank-none, rank-at, ranked-place, ranked-found, ranked-chosen}
 use Rattle.soundness_theory.proofs.KeepLaws.{never-facing}
-use Rattle.settling_theory.specs.Settle.{easing, easeAt, nextEase, restlessAs, stirring, tradeAt, stirAt, nextStir}
+use Rattle.settling_theory.specs.Settle.{easing, easeAt, nextEase, stirringAs, stirring, tradeAt, stirAt, nextStir}
 use Rattle.settling.specs.Turns.{entryIn, ownMarket, ownTurn, stirringBy, tradeStep}
 
 -- what a search by entry number tells of the rank that it answered
@@ -78,7 +78,7 @@ own-faces k own l e false = ap (λ (o : Market). o .offer) e
 own-faces k own l e true = ap (λ (o : Market). o .bid) e
 
 pub stirring-is : (k own : Market) (l : List Entry) → own ≡ ownMarket k l → (e : Entry) → stirringBy k own e ≡ stirring k l e
-stirring-is k own l h e = ap (λ (c : ℕ). restlessAs k c e (e .pricing)) (own-faces k own l h (e .sell))
+stirring-is k own l h e = ap (λ (c : ℕ). stirringAs k c e (e .pricing)) (own-faces k own l h (e .sell))
 
 module _ (k own : Market) (b : Book) (w : WellFormed b) (known : own ≡ ownMarket k (entriesOf b)) where
   stirring-all : lowest (stirringBy k own) (entriesOf b) ≡ lowest (stirring k (entriesOf b)) (entriesOf b)

@@ -18,7 +18,7 @@ use Rattle.soundness_theory.specs.SoundMarket.{SoundFor}
 use Rattle.settling_theory.specs.Settle.{nextEase, easings, stirring, nextStir, stirrings}
 use Rattle.settling_theory.proofs.Shapes.{ease-stop, stir-stop, nobody-eases}
 use Rattle.soundness_theory.proofs.MarketFacts.{MarketFacts, sound-for}
-use Rattle.settling_theory.proofs.EaseRule.{ease-falls, EntryEased, eased-is-calm, all-eased}
+use Rattle.settling_theory.proofs.EaseRule.{ease-falls, EntryEased, eased-uneased, all-eased}
 use Rattle.settling_theory.proofs.StirRule.{Easy, stir-falls}
 use Rattle.telling.proofs.GoingLaws.{Goes}
 use Rattle.settling.proofs.RankLaws.{Lowest}
@@ -42,7 +42,7 @@ easy {k} {l} u =
 
 pub easy-uneased : {k : Market} {top : ℕ} {l : List Entry} → MarketFacts k → Easy k top l → nextEase k l ≡ stop
 easy-uneased {k} {top} {l} mk ea = nobody-eases k l (record {
-  nobody = λ i e h. eased-is-calm k mk e (all-at _ l i e (ea .sound .entries) h) (all-at (EntryEased k) l i e (ea .eased) h);
+  nobody = λ i e h. eased-uneased k mk e (all-at _ l i e (ea .sound .entries) h) (all-at (EntryEased k) l i e (ea .eased) h);
 })
 
 pub stirring-falls : (k : Market) → Falls (nextStir k) (stirrings k) (Uneased k)

@@ -19,7 +19,7 @@ use Rattle.book.specs.Look.{bestContra, contra, working, facing}
 use Rattle.telling.specs.Tell.{traded}
 use Rattle.telling.specs.Stage.{Roomy, alone}
 use Rattle.soundness_theory.specs.SoundMarket.{SoundFor}
-use Rattle.settling_theory.specs.Settle.{nextEase, easeAt, restlessAs, tradeAt, stirAt, eased, stirred, settled}
+use Rattle.settling_theory.specs.Settle.{nextEase, easeAt, stirringAs, tradeAt, stirAt, eased, stirred, settled}
 
 -- ---- places of the book ----
 
@@ -37,7 +37,7 @@ abbrev pub ownTurn : Market → Entry → Market
 ownTurn own e = record { m = own .m; bid = facing working true (own .bid) e; offer = facing working false (own .offer) e }
 
 abbrev pub stirringBy : Market → Market → Entry → Bool
-stirringBy k own e = restlessAs k (away own (e .sell)) e (e .pricing)
+stirringBy k own e = stirringAs k (away own (e .sell)) e (e .pricing)
 
 pub record Judged (k own : Market) : Type 0 where
   pub bounds : (s : Bool) → Bounds (k .m) (away k s) (away own s)

@@ -1,4 +1,4 @@
-// Settling: easing, then trades and moves until nothing is restless, with one report for each step.
+// Settling: easing, then trades and moves until nothing stirs, with one report for each step.
 pub mod ease;
 pub mod stir;
 pub mod watch;

@@ -1,4 +1,4 @@
-// Trades and moves, one after the other, until nothing is restless.
+// Trades and moves, one after the other, until nothing stirs.
 use crate::ease::move_to;
 use crate::watch::first_stirring;
 use crate::watch::own_market;

@@ -1,4 +1,4 @@
-// Who is restless.
+// Who stirs.
 use book::Book;
 use book::Entry;
 use book::Least;
@@ -10,12 +10,12 @@ use book::look::lower_of;
 use book::look::number_key;
 use book::look::rank_of;
 use prices::Market;
-use prices::rest::is_restless;
+use prices::rest::is_stirring_at;
 use prices::side::away_of;
 ghost use mathlib.Core.Path.{_≡_};
 ghost use Rattle.book.specs.Shape.{entriesOf, WellFormed};
 ghost use Rattle.book.specs.Look.{lowest, rankOf};
-ghost use Rattle.settling_theory.specs.Settle.{stirs};
+ghost use Rattle.settling_theory.specs.Settle.{anyStirs};
 ghost use Rattle.settling.specs.Turns.{ownTurn, ownMarket, stirringBy, Judged, Judgeable, Watched, Askable};
 
 // One more entry: the better of what it offers either side and what was seen so far.
@@ -60,7 +60,7 @@ pub fn is_entry_stirring(market: Market, own: Market, e: Entry) -> bool
         Pricing::Sliding(d) => {
             let away = away_of(market, e.sell);
             let contra = away_of(own, e.sell);
-            is_restless(
+            is_stirring_at(
                 market.m,
                 kind_of(e),
                 e.sell,
@@ -97,7 +97,7 @@ pub fn first_stirring(b: Book, market: Market, own: Market) -> Rank
 // Whether anything does, where the book's own best prices are known.
 pub fn is_stirring_by(b: Book, market: Market, own: Market) -> bool
     requires { ⌜ Watched market own b ⌝ }
-    ensures { λ r. ⌜ r ≡ stirs market (entriesOf b) ⌝ }
+    ensures { λ r. ⌜ r ≡ anyStirs market (entriesOf b) ⌝ }
 {
     let n = b.count;
     let mut i = 0usize;
@@ -113,7 +113,7 @@ pub fn is_stirring_by(b: Book, market: Market, own: Market) -> bool
 // Whether there is anything to settle.
 pub fn is_stirring(b: Book, market: Market) -> bool
     requires { ⌜ Askable market b ⌝ }
-    ensures { λ r. ⌜ r ≡ stirs market (entriesOf b) ⌝ }
+    ensures { λ r. ⌜ r ≡ anyStirs market (entriesOf b) ⌝ }
 {
     let own = own_market(b, market);
     is_stirring_by(b, market, own)

@@ -9,15 +9,15 @@ use lib.Dec.{eqb}
 use lib.ListN.{length}
 use borrow.Author.Tests.{eq-eqb, not-true}
 use Rattle.prices.specs.declared.Market.{Market}
-use Rattle.prices.specs.Step.{mpv, given}
+use Rattle.prices.specs.Step.{mpv, noneOrLegal}
 use Rattle.prices.specs.Side.{away, keen, reaches}
 use Rattle.prices.specs.Aims.{sliding}
 use Rattle.prices.specs.Ease.{beyond, easedTo, eases}
 use Rattle.prices.proofs.FrameLaws.{seen, seen-inj, seen-keen, reaches-false, keen-either}
-use Rattle.prices.proofs.StepLaws.{Mpv, Legal, Given, is-mpv, is-given, present}
+use Rattle.prices.proofs.StepLaws.{Mpv, Legal, NoneOrLegal, is-mpv, is-none-or-legal, present}
 use Rattle.prices.proofs.AimLaws.{unbound, faced}
 use Rattle.prices.proofs.RestLaws.{Slides, Eased}
-use Rattle.prices.proofs.EaseLaws.{Dropped, eased, calm-eased}
+use Rattle.prices.proofs.EaseLaws.{Dropped, eased, uneased-eased}
 use Rattle.lists.specs.Places.{At, without, requeue}
 use Rattle.lists.specs.Tests.{All}
 use Rattle.lists.specs.Run.{go}
@@ -71,7 +71,7 @@ module _ (k : Market) (mk : MarketFacts k) {top : ℕ} where
   ease-less {l = l} so (eased-at {i = i} {e = e} c) =
       omega (
         arith,
-        count-snoc (easing k) (without i l) (priced (easedPrices k e) e) (ease-drops so c .drop .calm),
+        count-snoc (easing k) (without i l) (priced (easedPrices k e) e) (ease-drops so c .drop .uneased),
         count-without (easing k) i l e (c .there) (c .passes),
       )
 
@@ -93,7 +93,7 @@ EasedAs k s w (Sliding d) = Eased s (away k s) d w
 pub record EntryEased (k : Market) (e : Entry) : Type 0 where
   pub eased : EasedAs k (e .sell) (e .working) (e .pricing)
 
-module _ {m l a d w : ℕ} (s : Bool) (v : Mpv m) (ga : Given m a) (sl : Slides m s l d w) (ez : Eased s a d w) where
+module _ {m l a d w : ℕ} (s : Bool) (v : Mpv m) (ga : NoneOrLegal m a) (sl : Slides m s l d w) (ez : Eased s a d w) where
   -- one that works beyond the away price is shown where it works
   stays : beyond s a w ≡ true → w ≡ keen s d a
   unfolding faced
@@ -107,9 +107,9 @@ module _ {m l a d w : ℕ} (s : Bool) (v : Mpv m) (ga : Given m a) (sl : Slides 
       past : seen s a < seen s w
       past = reaches-false s a w (omega (arith, la .high)) (omega (arith, sl .works .high)) (not-true (reaches s a w) (and-right (not (eqb a 0)) (not (reaches s a w)) q))
 
-  pub eased-calm : eases s a d w ≡ false
+  pub eased-is-uneased : eases s a d w ≡ false
   unfolding eases easedTo
-  eased-calm = go (beyond s a w) refl
+  eased-is-uneased = go (beyond s a w) refl
     where
       go : (t : Bool) → beyond s a w ≡ t → not (eqb w (cond t (keen s d a) w)) ≡ false
       go true q = rw (eq-eqb w (keen s d a) (stays q))
@@ -117,22 +117,22 @@ module _ {m l a d w : ℕ} (s : Bool) (v : Mpv m) (ga : Given m a) (sl : Slides 
 
 module _ (k : Market) (mk : MarketFacts k) {top : ℕ} (e : Entry) (f : EntryFacts (k .m) top e) where
   -- left alone is eased, and the other way round
-  pub calm-is-eased : easing k e ≡ false → EntryEased k e
-  calm-is-eased h = record { eased = by (e .pricing) (f .prices) h }
+  pub uneased-is-eased : easing k e ≡ false → EntryEased k e
+  uneased-is-eased h = record { eased = by (e .pricing) (f .prices) h }
     where
       by : (p : Pricing) → PricedAs (k .m) (e .kind) (e .sell) (e .limit) (e .working) p → easesAs k e p ≡ false → EasedAs k (e .sell) (e .working) p
       by Fixed g t = tt
       by Dark g t = tt
-      by (Sliding d) g t = calm-eased (e .sell) (mk .step) (mk .given (e .sell)) (g .slides) t
+      by (Sliding d) g t = uneased-eased (e .sell) (mk .step) (mk .given (e .sell)) (g .slides) t
 
-  pub eased-is-calm : EntryEased k e → easing k e ≡ false
-  eased-is-calm z = by (e .pricing) (f .prices) (z .eased)
+  pub eased-uneased : EntryEased k e → easing k e ≡ false
+  eased-uneased z = by (e .pricing) (f .prices) (z .eased)
     where
       by : (p : Pricing) → PricedAs (k .m) (e .kind) (e .sell) (e .limit) (e .working) p → EasedAs k (e .sell) (e .working) p → easesAs k e p ≡ false
       by Fixed g t = refl
       by Dark g t = refl
-      by (Sliding d) g t = eased-calm (e .sell) (mk .step) (mk .given (e .sell)) (g .slides) t
+      by (Sliding d) g t = eased-is-uneased (e .sell) (mk .step) (mk .given (e .sell)) (g .slides) t
 
 pub all-eased : {k : Market} {top : ℕ} {l : List Entry} → MarketFacts k → Sound (k .m) top l → Nobody (easing k) l → All (EntryEased k) l
 all-eased {k} {top} {l} mk so n =
-    all-zip (λ e f h. calm-is-eased k mk e f h) l (so .entries) (all-of (λ (e : Entry). easing k e ≡ false) l (λ i e h. n .nobody i e h))
+    all-zip (λ e f h. uneased-is-eased k mk e f h) l (so .entries) (all-of (λ (e : Entry). easing k e ≡ false) l (λ i e h. n .nobody i e h))

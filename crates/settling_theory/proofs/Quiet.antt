@@ -1,4 +1,4 @@
--- Where nobody is restless there is nothing to settle: a quote that is to be eased is not at its resting prices either, so that one test serves both rules.
+-- Where nobody stirs there is nothing to settle: a quote that is to be eased is not at its resting prices either, so that one test serves both rules.
 -- Assumes nothing.
 use Prim.Native.Nat.{ℕ}
 use mathlib.Core.Path.{_≡_, refl, ap}
@@ -10,9 +10,9 @@ use borrow.Author.Tests.{eqb-true, not-false}
 use Rattle.prices.specs.declared.Prices.{Prices}
 use Rattle.prices.specs.declared.Market.{Market}
 use Rattle.prices.specs.Aims.{aims}
-use Rattle.prices.specs.Rest.{marketable, resting, atRest, restless}
+use Rattle.prices.specs.Rest.{marketable, restingPrices, atRest, stirsAt}
 use Rattle.prices.proofs.FrameLaws.{seen}
-use Rattle.prices.proofs.StepLaws.{Mpv, Given}
+use Rattle.prices.proofs.StepLaws.{Mpv, NoneOrLegal}
 use Rattle.prices.proofs.AimLaws.{aims-away}
 use Rattle.prices.proofs.RestLaws.{Slides, Eased, moved-display, moved-working}
 use Rattle.prices.proofs.QuoteLaws.{aim-aimed}
@@ -29,14 +29,14 @@ use Rattle.book.specs.Look.{contra}
 use Rattle.soundness_theory.proofs.Facts.{PricedAs, Sound}
 use Rattle.soundness_theory.proofs.FrontLaws.{given-contra}
 use Rattle.soundness_theory.proofs.KeepLaws.{here-facts}
-use Rattle.settling_theory.specs.Settle.{easesAs, easing, restlessAs, stirring, nextEase, easings, nextStir, stirrings, eased, stirred, settled, stirs}
+use Rattle.settling_theory.specs.Settle.{easesAs, easing, stirringAs, stirring, nextEase, easings, nextStir, stirrings, eased, stirred, settled, anyStirs}
 use Rattle.settling_theory.proofs.Shapes.{nobody-eases, nobody-stirs}
 use Rattle.soundness_theory.proofs.MarketFacts.{MarketFacts}
-use Rattle.settling_theory.proofs.EaseRule.{eased-calm}
+use Rattle.settling_theory.proofs.EaseRule.{eased-is-uneased}
 
 -- a quote at its resting prices is eased
-rests-eased : {m l a c d w : ℕ} (kind : ℕ) (s : Bool) → Mpv m → Given m a → Given m c → Slides m s l d w → restless m kind s l a c d w ≡ false → Eased s a d w
-unfolding restless atRest
+rests-eased : {m l a c d w : ℕ} (kind : ℕ) (s : Bool) → Mpv m → NoneOrLegal m a → NoneOrLegal m c → Slides m s l d w → stirsAt m kind s l a c d w ≡ false → Eased s a d w
+unfolding stirsAt atRest
 rests-eased {m} {l} {a} {c} {d} {w} kind s v ga gc sl h = record {
   eased = omega (arith, moved-display s d p, moved-working s d p, aims-away s v ga p (aim-aimed kind s v ga gc sl), ap (seen s) same-display, ap (seen s) same-working);
 }
@@ -44,39 +44,39 @@ rests-eased {m} {l} {a} {c} {d} {w} kind s v ga gc sl h = record {
     p : Prices
     p = aims m kind s l a c
 
-    rest : (eqb d (resting s d (aims m kind s l a c) .display) && eqb w (resting s d (aims m kind s l a c) .working)) ≡ true
-    rest = not-false (eqb d (resting s d p .display) && eqb w (resting s d p .working))
-        (or-false-right (marketable kind s c p) (not (eqb d (resting s d p .display) && eqb w (resting s d p .working))) h)
+    rest : (eqb d (restingPrices s d (aims m kind s l a c) .display) && eqb w (restingPrices s d (aims m kind s l a c) .working)) ≡ true
+    rest = not-false (eqb d (restingPrices s d p .display) && eqb w (restingPrices s d p .working))
+        (or-false-right (marketable kind s c p) (not (eqb d (restingPrices s d p .display) && eqb w (restingPrices s d p .working))) h)
 
-    same-display : d ≡ resting s d (aims m kind s l a c) .display
-    same-display = eqb-true d (resting s d p .display) (and-left (eqb d (resting s d p .display)) (eqb w (resting s d p .working)) rest)
+    same-display : d ≡ restingPrices s d (aims m kind s l a c) .display
+    same-display = eqb-true d (restingPrices s d p .display) (and-left (eqb d (restingPrices s d p .display)) (eqb w (restingPrices s d p .working)) rest)
 
-    same-working : w ≡ resting s d (aims m kind s l a c) .working
-    same-working = eqb-true w (resting s d p .working) (and-right (eqb d (resting s d p .display)) (eqb w (resting s d p .working)) rest)
+    same-working : w ≡ restingPrices s d (aims m kind s l a c) .working
+    same-working = eqb-true w (restingPrices s d p .working) (and-right (eqb d (restingPrices s d p .display)) (eqb w (restingPrices s d p .working)) rest)
 
 module _ {k : Market} {top : ℕ} {l : List Entry} (mk : MarketFacts k) (so : Sound (k .m) top l) where
   -- WHO EASES IS RESTLESS
-  pub calm-uneased : (i : ℕ) (e : Entry) → At l i e → stirring k l e ≡ false → easing k e ≡ false
-  calm-uneased i e at h = by (e .pricing) (here-facts so i e at .prices) h
+  pub unstirred-uneased : (i : ℕ) (e : Entry) → At l i e → stirring k l e ≡ false → easing k e ≡ false
+  unstirred-uneased i e at h = by (e .pricing) (here-facts so i e at .prices) h
     where
-      by : (p : Pricing) → PricedAs (k .m) (e .kind) (e .sell) (e .limit) (e .working) p → restlessAs k (contra (e .sell) l) e p ≡ false → easesAs k e p ≡ false
+      by : (p : Pricing) → PricedAs (k .m) (e .kind) (e .sell) (e .limit) (e .working) p → stirringAs k (contra (e .sell) l) e p ≡ false → easesAs k e p ≡ false
       by Fixed f t = refl
       by Dark f t = refl
       by (Sliding d) f t =
-          eased-calm (e .sell) (mk .step) (mk .given (e .sell)) (f .slides)
+          eased-is-uneased (e .sell) (mk .step) (mk .given (e .sell)) (f .slides)
           (rests-eased (e .kind) (e .sell) (mk .step) (mk .given (e .sell)) (given-contra (e .sell) so) (f .slides) t)
 
   pub nobody-eased : Nobody (stirring k l) l → Nobody (easing k) l
-  nobody-eased n = record { nobody = λ i e h. calm-uneased i e h (n .nobody i e h) }
+  nobody-eased n = record { nobody = λ i e h. unstirred-uneased i e h (n .nobody i e h) }
 
   -- so settling does nothing
-  pub calm-settled : Nobody (stirring k l) l → settled k l ≡ still l
+  pub unstirred-settled : Nobody (stirring k l) l → settled k l ≡ still l
   unfolding settled eased stirred still
-  calm-settled n =
+  unstirred-settled n =
       rw (run-stop (nextEase k) (easings k) l (nobody-eases k l (nobody-eased n)), run-stop (nextStir k) (stirrings k) l (nobody-stirs k l n)) refl
 
   -- NOTHING STIRS: no change and no report
-  pub quiet : stirs k l ≡ false → settled k l ≡ still l
-  unfolding stirs
+  pub quiet : anyStirs k l ≡ false → settled k l ≡ still l
+  unfolding anyStirs
   quiet h =
-      calm-settled (record { nobody = λ i e at. all-at (λ (x : Entry). stirring k l x ≡ false) l i e (any-false (stirring k l) l h) at })
+      unstirred-settled (record { nobody = λ i e at. all-at (λ (x : Entry). stirring k l x ≡ false) l i e (any-false (stirring k l) l h) at })

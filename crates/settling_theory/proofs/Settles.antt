@@ -8,7 +8,7 @@ use mathlib.Core.List.{List, _++_}
 use native.Mathlib.Omega.{arith}
 use lib.ListN.{length, length-append}
 use Rattle.prices.specs.declared.Market.{Market}
-use Rattle.prices.specs.Step.{mpv, given}
+use Rattle.prices.specs.Step.{mpv, noneOrLegal}
 use Rattle.lists.specs.Places.{At}
 use Rattle.lists.specs.Tests.{All}
 use Rattle.lists.specs.Run.{stop, Complete}
@@ -26,7 +26,7 @@ use Rattle.soundness_theory.specs.SoundMarket.{soundMarket, SoundFor}
 use Rattle.settling_theory.specs.Settle.{easing, nextEase, easings, stirring, nextStir, triangle, stirrings, eased, stirred, settled}
 use Rattle.settling_theory.proofs.Shapes.{ease-step, stir-step, ease-stop, stir-stop, nobody-eases}
 use Rattle.soundness_theory.proofs.MarketFacts.{MarketFacts, market-facts, sound-for}
-use Rattle.settling_theory.proofs.EaseRule.{ease-falls, ease-length, EntryEased, eased-is-calm, all-eased}
+use Rattle.settling_theory.proofs.EaseRule.{ease-falls, ease-length, EntryEased, eased-uneased, all-eased}
 use Rattle.settling_theory.proofs.StirRule.{Easy, triangle-twice, triangle-mono, stir-falls, stir-length}
 use Rattle.settling_theory.proofs.Keeps.{ease-keeps, stir-keeps, Stems, stems-start, stems-kept}
 use Rattle.telling.proofs.PackLaws.{Packs, all-pack, pack-append}
@@ -40,7 +40,7 @@ pub record Settled (k : Market) (l : List Entry) (top : ℕ) : Type 0 where
   -- the entries left are sound, and numbered as before
   pub sound : soundEntries (k .m) top (settled k l .final) ≡ true
   -- none of them stirs, and none eases: "Stop when there is none."
-  pub calm : (i : ℕ) (e : Entry) → At (settled k l .final) i e → stirring k (settled k l .final) e ≡ false
+  pub unstirred : (i : ℕ) (e : Entry) → At (settled k l .final) i e → stirring k (settled k l .final) e ≡ false
   pub uneased : (i : ℕ) (e : Entry) → At (settled k l .final) i e → easing k e ≡ false
   pub stirs-no-more : nextStir k (settled k l .final) ≡ stop
   pub eases-no-more : nextEase k (settled k l .final) ≡ stop
@@ -132,7 +132,7 @@ module _ (k : Market) (top : ℕ) (mk : MarketFacts k) (l : List Entry) (so : So
   unfolding settled
   settles-from = record {
     sound = sound-is (k .m) top (easy-two .sound);
-    calm = λ i e h. stir-stop k (stirred k (eased k l .final) .final) (complete-stop run-two) .nobody i e h;
+    unstirred = λ i e h. stir-stop k (stirred k (eased k l .final) .final) (complete-stop run-two) .nobody i e h;
     uneased = uneased;
     stirs-no-more = complete-stop run-two;
     eases-no-more = nobody-eases k (stirred k (eased k l .final) .final) (record { nobody = uneased });
@@ -149,7 +149,7 @@ module _ (k : Market) (top : ℕ) (mk : MarketFacts k) (l : List Entry) (so : So
       uneased : (i : ℕ) (e : Entry) → At (stirred k (eased k l .final) .final) i e → easing k e ≡ false
       uneased i e h =
           let l₂ : List Entry = stirred k (eased k l .final) .final in
-          eased-is-calm k mk e (all-at _ l₂ i e (easy-two .sound .entries) h) (all-at (EntryEased k) l₂ i e (easy-two .eased) h)
+          eased-uneased k mk e (all-at _ l₂ i e (easy-two .sound .entries) h) (all-at (EntryEased k) l₂ i e (easy-two .eased) h)
 
 -- THE THEOREM
 pub settles : {k : Market} {l : List Entry} → (s : SoundFor k l) → Settled k l (s .top)

@@ -10,7 +10,7 @@ use Rattle.prices.specs.declared.Prices.{Prices}
 use Rattle.prices.specs.declared.Market.{Market}
 use Rattle.prices.specs.Side.{reaches}
 use Rattle.prices.specs.Aims.{minds}
-use Rattle.prices.specs.Rest.{marketable, resting}
+use Rattle.prices.specs.Rest.{marketable, restingPrices}
 use Rattle.lists.specs.Places.{requeue}
 use Rattle.lists.specs.Choose.{Found, nowhere, found}
 use Rattle.lists.specs.Run.{stop, go}
@@ -33,7 +33,7 @@ pub data EaseStep (k : Market) (l : List Entry) : Report → List Entry → Type
       → EaseStep k l (repriced (priced (easedPrices k e) e)) (requeue i (priced (easedPrices k e) e) l)
 
 abbrev pub restPrices : Market → List Entry → Entry → Prices
-restPrices k l e = resting (e .sell) (display e) (aimsIn k l e)
+restPrices k l e = restingPrices (e .sell) (display e) (aimsIn k l e)
 
 abbrev pub marketableIn : Market → List Entry → Entry → Bool
 marketableIn k l e = marketable (e .kind) (e .sell) (contra (e .sell) l) (aimsIn k l e)

@@ -13,7 +13,7 @@ use Rattle.prices.specs.Aims.{sliding}
 use Rattle.prices.proofs.FrameLaws.{seen-high, facing-sym, mirror-le}
 use Rattle.prices.proofs.AimLaws.{faced}
 use Rattle.prices.proofs.RestLaws.{Slides, Eased}
-use Rattle.prices.proofs.QuoteLaws.{calm-stays, Moved, moves}
+use Rattle.prices.proofs.QuoteLaws.{unstirred-stays, Moved, moves}
 use Rattle.lists.specs.Places.{At, without, requeue}
 use Rattle.lists.specs.Tests.{All}
 use Rattle.lists.proofs.Bools.{clash, and-left}
@@ -32,7 +32,7 @@ use Rattle.soundness_theory.proofs.Facts.{PricedAs, Sound}
 use Rattle.soundness_theory.proofs.FrontLaws.{front-is, given-contra, front-requeue}
 use Rattle.soundness_theory.proofs.TradeLaws.{all-both, trade-shorter}
 use Rattle.soundness_theory.proofs.KeepLaws.{here-facts, here-short, never-facing, sound-both, sound-repriced}
-use Rattle.settling_theory.specs.Settle.{restlessAs, stirring, nextStir, triangle, stirrings}
+use Rattle.settling_theory.specs.Settle.{stirringAs, stirring, nextStir, triangle, stirrings}
 use Rattle.settling_theory.proofs.Shapes.{restPrices, marketableIn, StirStep, traded-at, moved-at, stir-step}
 use Rattle.soundness_theory.proofs.MarketFacts.{MarketFacts}
 use Rattle.settling_theory.proofs.EaseRule.{EasedAs, EntryEased, length-requeue}
@@ -53,7 +53,7 @@ triangle-mono zero n h = omega arith
 triangle-mono (suc m) zero h = absurd (omega arith)
 triangle-mono (suc m) (suc n) h = omega (arith, triangle-mono m n (omega arith))
 
--- fewer entries, all of them restless perhaps, are still less to do
+-- fewer entries, all of them stirring perhaps, are still less to do
 triangle-falls : (m n : ℕ) → m < n → m + triangle m < triangle n
 triangle-falls m n h = omega (arith, triangle-mono (suc m) n h)
 
@@ -76,16 +76,16 @@ pub record Restless (k : Market) (e : Entry) (d : ℕ) : Type 0 where
   pub eased : Eased (e .sell) (away k (e .sell)) d (e .working)
 
 module _ (k : Market) where
-  restless-as : (c : ℕ) (e : Entry) (p : Pricing) → PricedAs (k .m) (e .kind) (e .sell) (e .limit) (e .working) p
-      → EasedAs k (e .sell) (e .working) p → restlessAs k c e p ≡ true → Restless k e (shownAs (e .limit) p)
-  restless-as c e Fixed f z t = clash t refl
-  restless-as c e Dark f z t = clash t refl
-  restless-as c e (Sliding d) f z t = record { able = f .able; slides = f .slides; eased = z }
+  stirring-as : (c : ℕ) (e : Entry) (p : Pricing) → PricedAs (k .m) (e .kind) (e .sell) (e .limit) (e .working) p
+      → EasedAs k (e .sell) (e .working) p → stirringAs k c e p ≡ true → Restless k e (shownAs (e .limit) p)
+  stirring-as c e Fixed f z t = clash t refl
+  stirring-as c e Dark f z t = clash t refl
+  stirring-as c e (Sliding d) f z t = record { able = f .able; slides = f .slides; eased = z }
 
 module _ (k : Market) (mk : MarketFacts k) {top : ℕ} where
   stirs : {l : List Entry} {i : ℕ} {e : Entry} → Easy k top l → First (stirring k l) l i e → Restless k e (display e)
   stirs {l = l} {i = i} {e = e} ea c =
-      restless-as k (contra (e .sell) l) e (e .pricing) (here-facts (ea .sound) i e (c .there) .prices)
+      stirring-as k (contra (e .sell) l) e (e .pricing) (here-facts (ea .sound) i e (c .there) .prices)
       (all-at (EntryEased k) l i e (ea .eased) (c .there) .eased) (c .passes)
 
   -- its move
@@ -96,20 +96,20 @@ module _ (k : Market) (mk : MarketFacts k) {top : ℕ} where
       moves (e .kind) (e .sell) (mk .step) (mk .given (e .sell)) (given-contra (e .sell) (ea .sound)) (q .slides) (q .eased)
       (here-short (ea .sound) i e (c .there)) h
 
-  -- where every side faces what it faced or something nearer, who was calm is calm
-  calm : (l l′ : List Entry) → Easy k top l → Easy k top l′ → ((s : Bool) → faced s (contra s l′) ≤ faced s (contra s l))
+  -- where every side faces what it faced or something nearer, who did not stir does not stir
+  unstirred : (l l′ : List Entry) → Easy k top l → Easy k top l′ → ((s : Bool) → faced s (contra s l′) ≤ faced s (contra s l))
       → All (λ (e : Entry). stirring k l e ≡ false → stirring k l′ e ≡ false) l′
-  calm l l′ a b nearer = all-of (λ (e : Entry). stirring k l e ≡ false → stirring k l′ e ≡ false) l′ one
+  unstirred l l′ a b nearer = all-of (λ (e : Entry). stirring k l e ≡ false → stirring k l′ e ≡ false) l′ one
     where
       one : (i : ℕ) (e : Entry) → At l′ i e → stirring k l e ≡ false → stirring k l′ e ≡ false
       one i e at h = by (e .pricing) (here-facts (b .sound) i e at .prices) (all-at (EntryEased k) l′ i e (b .eased) at .eased) h
         where
           by : (p : Pricing) → PricedAs (k .m) (e .kind) (e .sell) (e .limit) (e .working) p → EasedAs k (e .sell) (e .working) p
-              → restlessAs k (contra (e .sell) l) e p ≡ false → restlessAs k (contra (e .sell) l′) e p ≡ false
+              → stirringAs k (contra (e .sell) l) e p ≡ false → stirringAs k (contra (e .sell) l′) e p ≡ false
           by Fixed f z t = refl
           by Dark f z t = refl
           by (Sliding d) f z t =
-              calm-stays (e .kind) (e .sell) (mk .step) (mk .given (e .sell)) (given-contra (e .sell) (a .sound)) (given-contra (e .sell) (b .sound))
+              unstirred-stays (e .kind) (e .sell) (mk .step) (mk .given (e .sell)) (given-contra (e .sell) (a .sound)) (given-contra (e .sell) (b .sound))
               (f .slides) z (nearer (e .sell)) (here-short (b .sound) i e at) t
 
   -- ---- a step ----
@@ -150,8 +150,8 @@ module _ (k : Market) (mk : MarketFacts k) {top : ℕ} where
       omega (
         arith,
         ap triangle (length-requeue i l e e′ (c .there)),
-        count-mono (stirring k l′) (stirring k l) l′ (calm l l′ ea easy (move-nearer ea c m easy)),
-        count-snoc (stirring k l) (without i l) e′ (stir-moves ea c m .calm),
+        count-mono (stirring k l′) (stirring k l) l′ (unstirred l l′ ea easy (move-nearer ea c m easy)),
+        count-snoc (stirring k l) (without i l) e′ (stir-moves ea c m .unstirred),
         count-without (stirring k l) i l e (c .there) (c .passes),
       )
 

@@ -8,7 +8,7 @@ use Rattle.prices.specs.declared.Prices.{Prices}
 use Rattle.prices.specs.declared.Market.{Market}
 use Rattle.prices.specs.Side.{away}
 use Rattle.prices.specs.Aims.{aims}
-use Rattle.prices.specs.Rest.{marketable, resting, restless}
+use Rattle.prices.specs.Rest.{marketable, restingPrices, stirsAt}
 use Rattle.prices.specs.Ease.{easedTo, eases}
 use Rattle.lists.specs.Places.{requeue}
 use Rattle.lists.specs.Tests.{any, count}
@@ -57,13 +57,13 @@ abbrev pub aimsIn : Market → List Entry → Entry → Prices
 aimsIn k l e = aims (k .m) (e .kind) (e .sell) (e .limit) (away k (e .sell)) (contra (e .sell) l)
 
 -- an entry stirs: it slides, and "is marketable (MMRP) or not at its resting prices"
-abbrev pub restlessAs : Market → ℕ → Entry → Pricing → Bool
-restlessAs k c e Fixed = false
-restlessAs k c e Dark = false
-restlessAs k c e (Sliding d) = restless (k .m) (e .kind) (e .sell) (e .limit) (away k (e .sell)) c d (e .working)
+abbrev pub stirringAs : Market → ℕ → Entry → Pricing → Bool
+stirringAs k c e Fixed = false
+stirringAs k c e Dark = false
+stirringAs k c e (Sliding d) = stirsAt (k .m) (e .kind) (e .sell) (e .limit) (away k (e .sell)) c d (e .working)
 
 abbrev pub stirring : Market → List Entry → Entry → Bool
-stirring k l e = restlessAs k (contra (e .sell) l) e (e .pricing)
+stirring k l e = stirringAs k (contra (e .sell) l) e (e .pricing)
 
 -- "If marketable, it trades as taker with the one best contra entry;"
 abbrev pub tradeAt : List Entry → ℕ → Entry → Found Entry → Step (List Entry) Report
@@ -73,7 +73,7 @@ tradeAt l i e (found j y) = go (traded e y (min (e .quantity) (y .quantity))) (h
 -- "else it moves to its resting prices."
 abbrev pub tradeOrMove : Market → List Entry → ℕ → Entry → Bool → Step (List Entry) Report
 tradeOrMove k l i e true = tradeAt l i e (bestContra (e .sell) false l)
-tradeOrMove k l i e false = reprice i (resting (e .sell) (display e) (aimsIn k l e)) e l
+tradeOrMove k l i e false = reprice i (restingPrices (e .sell) (display e) (aimsIn k l e)) e l
 
 abbrev pub stirAt : Market → List Entry → Found Entry → Step (List Entry) Report
 stirAt k l nowhere = stop
@@ -107,5 +107,5 @@ unfoldable pub settled : Market → List Entry → Ran (List Entry) Report
 settled k l = andThen (eased k l) (stirred k)
 
 -- whether there is anything to settle at all: an entry that is to be eased is not at its resting prices either (proofs/Quiet)
-unfoldable pub stirs : Market → List Entry → Bool
-stirs k l = any (stirring k l) l
+unfoldable pub anyStirs : Market → List Entry → Bool
+anyStirs k l = any (stirring k l) l

@@ -13,7 +13,7 @@ use Rattle.book.specs.declared.Entry.{Entry}
 use Rattle.book.specs.Look.{nearest, facing}
 use Rattle.book.proofs.OfferLaws.{best-alone, best-nearer, best-one}
 use Rattle.book.proofs.LookLaws.{nearest-tells, nearest-offered}
-use Rattle.soundness.specs.Summary.{higher, lower, held, told, buysAt, sellsAt}
+use Rattle.soundness.specs.Summary.{higherPrice, lowerPrice, offerKey, offerOf, buysAt, sellsAt}
 use Rattle.soundness.proofs.PairLaws.{scan-snoc}
 
 -- one more entry, as the price that a side faces has it
@@ -23,7 +23,7 @@ nearest-more price s l e = scan-snoc (λ (q : ℕ) (x : Entry). facing price s q
 
 -- ---- the highest buy: a maximum, as 0 is below all prices ----
 
-higher-nearer : (p q : ℕ) → higher p q ≡ nearer true p q
+higher-nearer : (p q : ℕ) → higherPrice p q ≡ nearer true p q
 unfolding nearer meek
 higher-nearer p q = go (ltb p q) refl (eqb p 0) refl (eqb q 0) refl
   where
@@ -36,21 +36,21 @@ higher-nearer p q = go (ltb p q) refl (eqb p 0) refl (eqb q 0) refl
     go false h false f false g = omega (arith, ltb-false p q h)
 
 pub highest-more : (price : Entry → ℕ) (l : List Entry) (e : Entry) (p : ℕ) → p ≡ nearest price true 0 l
-    → higher p (buysAt (e .sell) (price e)) ≡ nearest price true 0 (l ++ (e ∷ []))
+    → higherPrice p (buysAt (e .sell) (price e)) ≡ nearest price true 0 (l ++ (e ∷ []))
 highest-more price l e p h = side (e .sell) ∙ ap (λ (q : ℕ). facing price true q e) h ∙ sym (nearest-more price true l e)
   where
-    side : (s : Bool) → higher p (buysAt s (price e)) ≡ cond (Bool·beq s false) (nearer true p (price e)) p
+    side : (s : Bool) → higherPrice p (buysAt s (price e)) ≡ cond (Bool·beq s false) (nearer true p (price e)) p
     side true = rw (le-ltb p 0 (omega arith))
     side false = higher-nearer p (price e)
 
 -- ---- the lowest sell: a minimum, once none is held as a number above all prices ----
 
-pub held-some : (p : ℕ) → 1 ≤ p → held p ≡ p
-unfolding held
+pub held-some : (p : ℕ) → 1 ≤ p → offerKey p ≡ p
+unfolding offerKey
 held-some p h = rw (ne-eqb p 0 (λ e. omega arith))
 
-lower-nearer : (p q : ℕ) → p ≤ 100000 → q ≤ 100000 → lower (held p) (held q) ≡ held (nearer false p q)
-unfolding held nearer meek
+lower-nearer : (p q : ℕ) → p ≤ 100000 → q ≤ 100000 → lowerPrice (offerKey p) (offerKey q) ≡ offerKey (nearer false p q)
+unfolding offerKey nearer meek
 lower-nearer p q a b = go (eqb p 0) refl (eqb q 0) refl
   where
     both : (c : Bool) → ltb p q ≡ c → cond c p q ≡ min p q
@@ -58,7 +58,7 @@ lower-nearer p q a b = go (eqb p 0) refl (eqb q 0) refl
     both false h = omega (arith, ltb-false p q h)
 
     go : (x : Bool) → eqb p 0 ≡ x → (y : Bool) → eqb q 0 ≡ y
-        → lower (cond x 1000000 p) (cond y 1000000 q) ≡ cond (eqb (cond x q (cond y p (min p q))) 0) 1000000 (cond x q (cond y p (min p q)))
+        → lowerPrice (cond x 1000000 p) (cond y 1000000 q) ≡ cond (eqb (cond x q (cond y p (min p q))) 0) 1000000 (cond x q (cond y p (min p q)))
     go true f true g = rw g
     go true f false g = rw (g, le-ltb 1000000 q (omega arith))
     go false f true g = rw (f, lt-ltb p 1000000 (omega arith))
@@ -84,29 +84,29 @@ lower-high p q a b = go (eqb p 0) (eqb q 0)
 
 -- p holds the lowest price of the sells
 pub record Lowest (price : Entry → ℕ) (l : List Entry) (p : ℕ) : Type 0 where
-  pub holds : p ≡ held (nearest price false 0 l)
+  pub holds : p ≡ offerKey (nearest price false 0 l)
   pub high : nearest price false 0 l ≤ 100000
 
 pub lowest-none : (price : Entry → ℕ) → Lowest price [] 1000000
-unfolding nearest scan held
+unfolding nearest scan offerKey
 lowest-none price = record { holds = refl; high = omega arith }
 
 pub lowest-more : (price : Entry → ℕ) (l : List Entry) (e : Entry) (p : ℕ) → Lowest price l p → price e ≤ 100000
-    → Lowest price (l ++ (e ∷ [])) (lower p (sellsAt (e .sell) (held (price e))))
-unfolding held
+    → Lowest price (l ++ (e ∷ [])) (lowerPrice p (sellsAt (e .sell) (offerKey (price e))))
+unfolding offerKey
 lowest-more price l e p h high = rw (h .holds) (record {
-  holds = side (e .sell) ∙ ap held (sym (nearest-more price false l e));
+  holds = side (e .sell) ∙ ap offerKey (sym (nearest-more price false l e));
   high = rw (nearest-more price false l e) (low (e .sell));
 })
   where
     q : ℕ
     q = nearest price false 0 l
 
-    stays : (b : Bool) → eqb q 0 ≡ b → lower (cond b 1000000 q) 1000000 ≡ cond b 1000000 q
+    stays : (b : Bool) → eqb q 0 ≡ b → lowerPrice (cond b 1000000 q) 1000000 ≡ cond b 1000000 q
     stays true f = refl
     stays false f = rw (lt-ltb q 1000000 (omega (arith, h .high)))
 
-    side : (s : Bool) → lower (held q) (sellsAt s (held (price e))) ≡ held (cond (Bool·beq s true) (nearer false q (price e)) q)
+    side : (s : Bool) → lowerPrice (offerKey q) (sellsAt s (offerKey (price e))) ≡ offerKey (cond (Bool·beq s true) (nearer false q (price e)) q)
     side true = lower-nearer q (price e) (h .high) high
     side false = stays (eqb q 0) refl
 
@@ -114,11 +114,11 @@ lowest-more price l e p h high = rw (h .holds) (record {
     low true = lower-high q (price e) (h .high) high
     low false = h .high
 
-pub lowest-told : (price : Entry → ℕ) (l : List Entry) (p : ℕ) → Lowest price l p → told p ≡ nearest price false 0 l
-unfolding held told
+pub lowest-told : (price : Entry → ℕ) (l : List Entry) (p : ℕ) → Lowest price l p → offerOf p ≡ nearest price false 0 l
+unfolding offerKey offerOf
 lowest-told price l p h = rw (h .holds) (go (eqb (nearest price false 0 l) 0) refl)
   where
-    go : (b : Bool) → eqb (nearest price false 0 l) 0 ≡ b → told (cond b 1000000 (nearest price false 0 l)) ≡ nearest price false 0 l
+    go : (b : Bool) → eqb (nearest price false 0 l) 0 ≡ b → offerOf (cond b 1000000 (nearest price false 0 l)) ≡ nearest price false 0 l
     go true f = sym (eqb-true (nearest price false 0 l) 0 f)
     go false f = rw (ne-eqb (nearest price false 0 l) 1000000 (λ e. omega (arith, h .high)))
 

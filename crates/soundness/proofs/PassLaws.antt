@@ -23,7 +23,7 @@ use Rattle.book.specs.Look.{contra, national, nearest, working}
 use Rattle.soundness_theory.specs.Sound.{soundEntry, distinct, oneQuote, uncrossed, soundPair, soundEntries}
 use Rattle.soundness.specs.declared.Check.{Check}
 use Rattle.soundness.specs.declared.Best.{Best}
-use Rattle.soundness.specs.Summary.{seatOf, Seated, lower, told, sellsAt, better, apart, unsound, finding, Passed}
+use Rattle.soundness.specs.Summary.{seatOf, Seated, lowerPrice, offerOf, sellsAt, better, bestApart, unsound, finding, Passed}
 use Rattle.soundness.proofs.PairLaws.{contrary, pairs-and, pairs-snoc-is, pairs-front, all-snoc-is, all-front, any-snoc-is, map-snoc, new-decided}
 use Rattle.soundness.proofs.SpreadLaws.{spread-decides}
 use Rattle.soundness.proofs.ClauseLaws.{clauses-of, works, works-high, shows-high}
@@ -118,7 +118,7 @@ module _ (m given : ℕ) (l : List Entry) (best : Best) (numbers : List ℕ) (se
             ∙ and-both (pairs oneQuote l) (all (λ (y : Entry). oneQuote y e) l) (g .quotes) (seat-decides l e seats c (g .seated) ∙ ap not vacant);
         top = all-snoc (λ (x : Entry). x .number ≤ better best e .top) l e (all-map (λ x h. omega (arith, high .0)) l (g .top)) (high .1);
         bid = highest-more working l e (best .bid) (g .bid);
-        offer = subst (λ (q : ℕ). Lowest working (l ++ (e ∷ [])) (lower (best .offer) (sellsAt (e .sell) q))) (held-some (e .working) (works m given e c v))
+        offer = subst (λ (q : ℕ). Lowest working (l ++ (e ∷ [])) (lowerPrice (best .offer) (sellsAt (e .sell) q))) (held-some (e .working) (works m given e c v))
             (lowest-more working l e (best .offer) (g .offer) (works-high m given e c));
         shownbid = highest-more display l e (best .shownbid) (g .shownbid);
         shownoffer = lowest-more display l e (best .shownoffer) (g .shownoffer) (shows-high m given e c);
@@ -140,9 +140,9 @@ refused h e = record {
 -- every entry has been read: the best prices decide
 pub all-read : {m given : ℕ} {l : List Entry} {best : Best} {numbers : List ℕ} {seats : List Bool} → mpv m ≡ true
     → Gathered m given l best numbers seats → (r : Check) → r ≡ finding best seats → Passed m given l r
-all-read {m} {given} {l} {best} {numbers} {seats} v g r e = go (apart (best .bid) (told (best .offer))) refl e
+all-read {m} {given} {l} {best} {numbers} {seats} v g r e = go (bestApart (best .bid) (offerOf (best .offer))) refl e
   where
-    decided : soundEntries m given l ≡ apart (best .bid) (told (best .offer))
+    decided : soundEntries m given l ≡ bestApart (best .bid) (offerOf (best .offer))
     decided =
         sound-parts m given l
         ∙ rw (g .entries, g .different, g .quotes, g .bid, lowest-told working l (best .offer) (g .offer))
@@ -152,14 +152,14 @@ all-read {m} {given} {l} {best} {numbers} {seats} v g r e = go (apart (best .bid
     answer = record {
       ok = true;
       bid = best .bid;
-      offer = told (best .offer);
+      offer = offerOf (best .offer);
       shownbid = best .shownbid;
-      shownoffer = told (best .shownoffer);
+      shownoffer = offerOf (best .shownoffer);
       quoted = best .quoted;
       seats = seats;
     }
 
-    go : (b : Bool) → apart (best .bid) (told (best .offer)) ≡ b → r ≡ cond b answer unsound → Passed m given l r
+    go : (b : Bool) → bestApart (best .bid) (offerOf (best .offer)) ≡ b → r ≡ cond b answer unsound → Passed m given l r
     go false q h = refused (decided ∙ q) h
     go true q h = rw h (record {
       verdict = sym (decided ∙ q);

@@ -14,12 +14,12 @@ use Rattle.book.specs.declared.Entry.{Entry}
 use Rattle.book.specs.Look.{contra, nearest, working, facing}
 use Rattle.book.proofs.OfferLaws.{positive}
 use Rattle.soundness_theory.specs.Sound.{uncrossed, uncrossedAs}
-use Rattle.soundness.specs.Summary.{apart}
+use Rattle.soundness.specs.Summary.{bestApart}
 use Rattle.soundness.proofs.PairLaws.{all-same, all-and}
 
 -- an entry of side s at price w, beside a bid and an offer
 fits : ℕ → ℕ → Bool → ℕ → Bool
-fits bid offer false w = apart w offer
+fits bid offer false w = bestApart w offer
 fits bid offer true w = ltb bid w
 
 beside : ℕ → ℕ → Entry → Bool
@@ -42,7 +42,7 @@ module _ (p q w : ℕ) (some : 1 ≤ w) where
       go false e false f false g d h = le-ltb (max p w) x (omega (arith, ltb-false p x g))
 
   -- a price is below the lower of two offers, of which one may be missing, just if it is below both
-  below-lower : (x : ℕ) → apart x (nearer false q w) ≡ (apart x q && ltb x w)
+  below-lower : (x : ℕ) → bestApart x (nearer false q w) ≡ (bestApart x q && ltb x w)
   unfolding nearer meek
   below-lower x = go (eqb q 0) refl (eqb w 0) refl (ltb x q) refl (ltb x w) refl
     where
@@ -50,7 +50,7 @@ module _ (p q w : ℕ) (some : 1 ≤ w) where
       present r h = rw (ne-eqb r 0 (λ e. omega arith))
 
       go : (a : Bool) → eqb q 0 ≡ a → (b : Bool) → eqb w 0 ≡ b → (c : Bool) → ltb x q ≡ c → (d : Bool) → ltb x w ≡ d
-          → apart x (cond a w (cond b q (min q w))) ≡ ((a || c) && d)
+          → bestApart x (cond a w (cond b q (min q w))) ≡ ((a || c) && d)
       go a e true f c g d h = absurd (omega (arith, eqb-true w 0 f))
       go true e false f c g d h = present w some ∙ h
       go false e false f c g d h =
@@ -67,13 +67,13 @@ module _ (p q v : ℕ) (some : 1 ≤ v) where
   fits-next : (s t : Bool) (w : ℕ)
       → fits (cond (Bool·beq s false) (nearer true p v) p) (cond (Bool·beq s true) (nearer false q v) q) t w ≡ (fits p q t w && uncrossedAs s t v w)
   unfolding fits
-  fits-next false false w = sym (and-true (apart w q))
+  fits-next false false w = sym (and-true (bestApart w q))
   fits-next false true w = below-both p q v some w
   fits-next true false w = below-lower p q v some w
   fits-next true true w = sym (and-true (ltb p w))
 
   apart-next : (s : Bool)
-      → apart (cond (Bool·beq s false) (nearer true p v) p) (cond (Bool·beq s true) (nearer false q v) q) ≡ (apart p q && fits p q s v)
+      → bestApart (cond (Bool·beq s false) (nearer true p v) p) (cond (Bool·beq s true) (nearer false q v) q) ≡ (bestApart p q && fits p q s v)
   unfolding fits
   apart-next true = below-lower p q v some p
   apart-next false = go (eqb q 0) (below-both p q v some q)
@@ -96,12 +96,12 @@ abbrev Works : Entry → Type 0
 Works e = 1 ≤ e .working
 
 spread-from : (l : List Entry) → All Works l → (p q i : ℕ)
-    → apart (reading true p i l) (reading false q i l) ≡ (apart p q && (all (beside p q) l && pairs uncrossed l))
+    → bestApart (reading true p i l) (reading false q i l) ≡ (bestApart p q && (all (beside p q) l && pairs uncrossed l))
 unfolding reading scan all pairs beside
-spread-from [] a p q i = sym (and-true (apart p q))
+spread-from [] a p q i = sym (and-true (bestApart p q))
 spread-from (x ∷ l) a p q i =
     spread-from l (a .1) (facing working true p x) (facing working false q x) (i + 1)
-    ∙ rw (apart-next p q (x .working) (a .0) (x .sell), others) (regroup (apart p q) (beside p q x) (all (beside p q) l) (all (uncrossed x) l) (pairs uncrossed l))
+    ∙ rw (apart-next p q (x .working) (a .0) (x .sell), others) (regroup (bestApart p q) (beside p q x) (all (beside p q) l) (all (uncrossed x) l) (pairs uncrossed l))
   where
     others : all (beside (facing working true p x) (facing working false q x)) l ≡ (all (beside p q) l && all (uncrossed x) l)
     others =
@@ -118,6 +118,6 @@ alone (x ∷ l) a = rw (one (x .sell), alone l (a .1))
     one false = refl
     one true = lt-ltb 0 (x .working) (a .0)
 
-pub spread-decides : (l : List Entry) → All Works l → pairs uncrossed l ≡ apart (contra true l) (contra false l)
+pub spread-decides : (l : List Entry) → All Works l → pairs uncrossed l ≡ bestApart (contra true l) (contra false l)
 unfolding nearest reading
 spread-decides l a = sym (spread-from l a 0 0 0 ∙ rw (alone l a))

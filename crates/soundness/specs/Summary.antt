@@ -43,18 +43,18 @@ isFound (found i x) = true
 
 -- ---- prices: the best of each side, 0 for none ----
 
-abbrev pub higher : ℕ → ℕ → ℕ
-higher p q = cond (ltb p q) q p
+abbrev pub higherPrice : ℕ → ℕ → ℕ
+higherPrice p q = cond (ltb p q) q p
 
-abbrev pub lower : ℕ → ℕ → ℕ
-lower p q = cond (ltb p q) p q
+abbrev pub lowerPrice : ℕ → ℕ → ℕ
+lowerPrice p q = cond (ltb p q) p q
 
 -- while the entries are read, 1,000,000 stands for no offer, so that the lowest is a minimum; and back
-unfoldable pub held : ℕ → ℕ
-held p = cond (eqb p 0) 1000000 p
+unfoldable pub offerKey : ℕ → ℕ
+offerKey p = cond (eqb p 0) 1000000 p
 
-unfoldable pub told : ℕ → ℕ
-told p = cond (eqb p 1000000) 0 p
+unfoldable pub offerOf : ℕ → ℕ
+offerOf p = cond (eqb p 1000000) 0 p
 
 -- the price of an entry of side s, for the highest buy and the lowest sell
 abbrev pub buysAt : Bool → ℕ → ℕ
@@ -66,17 +66,17 @@ sellsAt s p = cond s p 1000000
 -- one more entry: the highest number, the best prices, the displays without the dark ones, and whether a quote was met
 abbrev pub better : Best → Entry → Best
 better best e = record {
-  top = higher (best .top) (e .number);
-  bid = higher (best .bid) (buysAt (e .sell) (e .working));
-  offer = lower (best .offer) (sellsAt (e .sell) (e .working));
-  shownbid = higher (best .shownbid) (buysAt (e .sell) (display e));
-  shownoffer = lower (best .shownoffer) (sellsAt (e .sell) (held (display e)));
+  top = higherPrice (best .top) (e .number);
+  bid = higherPrice (best .bid) (buysAt (e .sell) (e .working));
+  offer = lowerPrice (best .offer) (sellsAt (e .sell) (e .working));
+  shownbid = higherPrice (best .shownbid) (buysAt (e .sell) (display e));
+  shownoffer = lowerPrice (best .shownoffer) (sellsAt (e .sell) (offerKey (display e)));
   quoted = best .quoted || quote e;
 }
 
 -- "every buy's working price is below every sell's", of the highest and the lowest; an offer of 0 is none
-abbrev pub apart : ℕ → ℕ → Bool
-apart bid offer = eqb offer 0 || ltb bid offer
+abbrev pub bestApart : ℕ → ℕ → Bool
+bestApart bid offer = eqb offer 0 || ltb bid offer
 
 -- ---- the answer ----
 
@@ -104,12 +104,12 @@ unsound = record { ok = false; bid = 0; offer = 0; shownbid = 0; shownoffer = 0;
 
 -- what the pass over the entries finds once all have been read
 abbrev pub finding : Best → List Bool → Check
-finding best seats = cond (apart (best .bid) (told (best .offer))) (record {
+finding best seats = cond (bestApart (best .bid) (offerOf (best .offer))) (record {
   ok = true;
   bid = best .bid;
-  offer = told (best .offer);
+  offer = offerOf (best .offer);
   shownbid = best .shownbid;
-  shownoffer = told (best .shownoffer);
+  shownoffer = offerOf (best .shownoffer);
   quoted = best .quoted;
   seats = seats;
 }) unsound

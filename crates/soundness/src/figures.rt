@@ -10,7 +10,7 @@ ghost use mathlib.Core.Bool.{false, not, _||_};
 ghost use lib.ListN.{length, take, getD};
 ghost use lib.Dec.{eqb, ltb};
 ghost use Rattle.lists.specs.Tests.{any};
-ghost use Rattle.soundness.specs.Summary.{seat, seatOf, higher, lower, buysAt, sellsAt, held, told, better, apart, unsound, faced, facedShown};
+ghost use Rattle.soundness.specs.Summary.{seat, seatOf, higherPrice, lowerPrice, buysAt, sellsAt, offerKey, offerOf, better, bestApart, unsound, faced, facedShown};
 
 // The answer for a book that is not sound.
 pub fn broken() -> Check
@@ -28,13 +28,13 @@ pub fn broken() -> Check
 }
 
 fn higher_of(p: u32, q: u32) -> u32
-    ensures { λ r. ⌜ r ≡ higher p q ⌝ }
+    ensures { λ r. ⌜ r ≡ higherPrice p q ⌝ }
 {
     if p < q { q } else { p }
 }
 
 fn lower_of(p: u32, q: u32) -> u32
-    ensures { λ r. ⌜ r ≡ lower p q ⌝ }
+    ensures { λ r. ⌜ r ≡ lowerPrice p q ⌝ }
 {
     if p < q { p } else { q }
 }
@@ -54,14 +54,14 @@ fn sells_at(e: Entry, p: u32) -> u32
 
 // A dark entry shows no price, and so no lower one than any other.
 fn held_of(p: u32) -> u32
-    ensures { λ r. ⌜ r ≡ held p ⌝ }
+    ensures { λ r. ⌜ r ≡ offerKey p ⌝ }
 {
     if p == 0 { 1000000 } else { p }
 }
 
 // The lowest price, 0 for none.
 pub fn lowest_of(p: u32) -> u32
-    ensures { λ r. ⌜ r ≡ told p ⌝ }
+    ensures { λ r. ⌜ r ≡ offerOf p ⌝ }
 {
     if p == 1000000 { 0 } else { p }
 }
@@ -84,7 +84,7 @@ pub fn bettered(best: Best, e: Entry) -> Best
 
 // Whether the highest buy is below the lowest sell, if there is one.
 pub fn is_apart(bid: u32, offer: u32) -> bool
-    ensures { λ r. ⌜ r ≡ apart bid offer ⌝ }
+    ensures { λ r. ⌜ r ≡ bestApart bid offer ⌝ }
 {
     (offer == 0) | (bid < offer)
 }

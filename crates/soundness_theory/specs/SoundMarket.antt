@@ -6,13 +6,13 @@ use mathlib.Core.Path.{_≡_}
 use mathlib.Core.Bool.{Bool, true, _&&_}
 use mathlib.Core.List.{List}
 use Rattle.prices.specs.declared.Market.{Market}
-use Rattle.prices.specs.Step.{mpv, given}
+use Rattle.prices.specs.Step.{mpv, noneOrLegal}
 use Rattle.book.specs.declared.Entry.{Entry}
 use Rattle.soundness_theory.specs.Sound.{soundEntries}
 
 -- an MPV and away prices that are none or legal
 unfoldable pub soundMarket : Market → Bool
-soundMarket k = mpv (k .m) && (given (k .m) (k .bid) && given (k .m) (k .offer))
+soundMarket k = mpv (k .m) && (noneOrLegal (k .m) (k .bid) && noneOrLegal (k .m) (k .offer))
 
 -- entries that are sound before a sound market, whatever number has been given last
 pub record SoundFor (k : Market) (l : List Entry) : Type 0 where

@@ -12,8 +12,8 @@ use Rattle.book.specs.declared.Pricing.{Pricing}
 use Rattle.book.specs.declared.Pricing.the-variants.{Fixed, Dark, Sliding}
 
 -- 0 fixed, 1 dark, else sliding
-abbrev pub pricingOf : ℕ → ℕ → Pricing
-pricingOf sort display = cond (eqb sort 0) Fixed (cond (eqb sort 1) Dark (Sliding display))
+abbrev pub pricingRead : ℕ → ℕ → Pricing
+pricingRead sort display = cond (eqb sort 0) Fixed (cond (eqb sort 1) Dark (Sliding display))
 
 -- the entry at a place: number, limit, quantity, working price and display, then party, kind, side (1 sells) and pricing
 abbrev pub entryAt : List ℕ → ℕ → Entry
@@ -25,7 +25,7 @@ entryAt l at = record {
   limit = numberAt l (at + 4);
   quantity = numberAt l (at + 8);
   working = numberAt l (at + 12);
-  pricing = pricingOf (byteAt l (at + 23)) (numberAt l (at + 16));
+  pricing = pricingRead (byteAt l (at + 23)) (numberAt l (at + 16));
 }
 
 -- the count, and 64 entries of 24 bytes

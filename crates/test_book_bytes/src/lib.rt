@@ -8,10 +8,10 @@ use test_reading::byte_at;
 use test_reading::number_at;
 ghost use mathlib.Core.Path.{_≡_};
 ghost use Prim.Native.Nat.{_≤_};
-ghost use Rattle.test_book_bytes.specs.Layout.{pricingOf, entryAt, bookIn};
+ghost use Rattle.test_book_bytes.specs.Layout.{pricingRead, entryAt, bookIn};
 
 fn pricing_of(sort: u8, display: u32) -> Pricing
-    ensures { λ r. ⌜ r ≡ pricingOf sort display ⌝ }
+    ensures { λ r. ⌜ r ≡ pricingRead sort display ⌝ }
 {
     if sort == 0 {
         return Pricing::Fixed;

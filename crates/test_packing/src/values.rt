@@ -2,8 +2,8 @@
 use crate::text::print;
 use crate::text::print_all;
 use crate::text::stands;
+use packing::message::Entering;
 use packing::message::Event;
-use packing::message::Terms;
 use packing::report::Report;
 use packing::setup::Setup;
 use test_reading::number_at;
@@ -17,19 +17,19 @@ fn print_same(ok: bool, same: bool) {
     }
 }
 
-fn of_terms(kind: u32, t: Terms) -> [u32; 5] {
+fn of_entering(kind: u32, t: Entering) -> [u32; 5] {
     [kind, t.party, t.sell as u32, t.price, t.quantity]
 }
 
 // An event's kind and values.
 fn numbers(e: Event) -> [u32; 5] {
     match e {
-        Event::Plain(t) => of_terms(1, t),
-        Event::Mmlo(t) => of_terms(2, t),
-        Event::Mmalo(t) => of_terms(3, t),
-        Event::Mmrp(t) => of_terms(4, t),
-        Event::Displayed(t) => of_terms(5, t),
-        Event::Dark(t) => of_terms(6, t),
+        Event::Plain(t) => of_entering(1, t),
+        Event::Mmlo(t) => of_entering(2, t),
+        Event::Mmalo(t) => of_entering(3, t),
+        Event::Mmrp(t) => of_entering(4, t),
+        Event::Displayed(t) => of_entering(5, t),
+        Event::Dark(t) => of_entering(6, t),
         Event::CancelEntry { party, entry } => [7, party, entry, 0, 0],
         Event::CancelQuote { party, sell } => [8, party, sell as u32, 0, 0],
         Event::Away { bid, offer } => [9, bid, offer, 0, 0],

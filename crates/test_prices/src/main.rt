@@ -47,7 +47,7 @@ fn answer(q: Question) {
         4 => tell::resting(q.a != 0, q.b, q.c, q.d),
         5 => tell::eased(q.a != 0, q.b, q.c, q.d),
         6 => tell::legal(q.a, q.b),
-        7 => tell::restless(q.a, q.b, q.c != 0, q.d, q.e, q.f, q.g, q.h),
+        7 => tell::stirring(q.a, q.b, q.c != 0, q.d, q.e, q.f, q.g, q.h),
         8 => tell::slide(q.a, q.b != 0, q.c, q.d, q.e),
         9 => tell::best(q.a != 0, q.b, q.c),
         10 => tell::away(q.a != 0, q.b, q.c),

@@ -7,14 +7,14 @@ use prices::ease::eased_to;
 use prices::post::stop_of;
 use prices::protect::protection_of;
 use prices::request::request_aims;
-use prices::rest::is_restless;
 use prices::rest::is_slide;
+use prices::rest::is_stirring_at;
 use prices::rest::resting_of;
 use prices::side::away_of;
 use prices::side::nearer_of;
-use prices::step::is_given;
 use prices::step::is_legal;
 use prices::step::is_mpv;
+use prices::step::is_none_or_legal;
 
 pub(crate) fn end() {
     io::write_all(STDOUT_FILENO, b"\n");
@@ -119,7 +119,7 @@ pub(crate) fn legal(m: u32, p: u32) {
     nothing();
 }
 
-pub(crate) fn restless(
+pub(crate) fn stirring(
     m: u32,
     kind: u32,
     sell: bool,
@@ -130,9 +130,9 @@ pub(crate) fn restless(
     working: u32,
 ) {
     if is_mpv(m) {
-        if is_given(m, away) {
-            if is_given(m, contra) {
-                return truth(is_restless(m, kind, sell, limit, away, contra, display, working));
+        if is_none_or_legal(m, away) {
+            if is_none_or_legal(m, contra) {
+                return truth(is_stirring_at(m, kind, sell, limit, away, contra, display, working));
             }
         }
     }

@@ -2,7 +2,7 @@ use Prim.Native.Nat.{ℕ, _+_}
 use mathlib.Core.Path.{ap, _∙_}
 use lib.Dec.{eqb}
 use Rattle.test_reading.specs.Number.{byteAt}
-use Rattle.test_book_bytes.specs.Layout.{pricingOf}
+use Rattle.test_book_bytes.specs.Layout.{pricingRead}
 use borrow.Author.Needs.{needs}
 use Rattle.test_book_bytes.proofs.entry_at.Statement.{statement}
 use Rattle.test_book_bytes.proofs.entry_at.Tie as tie
@@ -70,7 +70,7 @@ returns c = λ i. record {
   limit = c .before .before .number-at3 .ensures i;
   quantity = c .before .number-at4 .ensures i;
   working = c .number-at5 .ensures i;
-  pricing = (c .before .before .before .before .before .before .before .pricing-of .ensures ∙ ap (λ (k : ℕ). pricingOf k (c .before .before .before .before .before .before .before .before .number-at .result)) (c .before .before .before .before .before .before .before .before .before .byte-at .ensures) ∙ ap (pricingOf (byteAt (c .before .before .before .before .before .before .before .before .before .before .before .args .bytes .now) (c .before .before .before .before .before .before .before .before .before .before .before .args .at + 23))) (c .before .before .before .before .before .before .before .before .number-at .ensures)) i;
+  pricing = (c .before .before .before .before .before .before .before .pricing-of .ensures ∙ ap (λ (k : ℕ). pricingRead k (c .before .before .before .before .before .before .before .before .number-at .result)) (c .before .before .before .before .before .before .before .before .before .byte-at .ensures) ∙ ap (pricingRead (byteAt (c .before .before .before .before .before .before .before .before .before .before .before .args .bytes .now) (c .before .before .before .before .before .before .before .before .before .before .before .args .at + 23))) (c .before .before .before .before .before .before .before .before .number-at .ensures)) i;
 }
 
 pub entry-at-spec : {M : Type 1} → statement M

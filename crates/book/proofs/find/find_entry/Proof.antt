@@ -1,6 +1,6 @@
 use Rattle.book.specs.Look.{rankOf, entryOf}
 use Rattle.book.specs.Shape.{zeroEntry, entriesOf}
-use Rattle.book.specs.Entries.{own}
+use Rattle.book.specs.Entries.{ownEntry}
 use Rattle.lists.proofs.LoopLaws.{Searching, scan-start, search-past, search-hit, search-none}
 use native.Mathlib.Omega.{arith}
 use mathlib.Core.Path.{sym, ap, _∙_}
@@ -10,7 +10,7 @@ use Rattle.book.proofs.find.find_entry.Statement.{statement}
 use Rattle.book.proofs.find.find_entry.Tie as tie
 
 abbrev Inv-loop : tie.InvT-loop
-Inv-loop party number b n i₀ i = Searching (own party number) (b .entries) n i
+Inv-loop party number b n i₀ i = Searching (ownEntry party number) (b .entries) n i
 
 abbrev μ-loop : tie.MeasureT-loop
 μ-loop party number b n i₀ i = n - i
@@ -29,7 +29,7 @@ is-own-requires c κs = search needs
 
 returns : tie.Need-returns Inv-loop μ-loop
 unfolding entryOf entriesOf
-returns c = let s = c .before .before .before .before .before in ap rankOf (search-hit (own (s .args .party) (s .args .number)) (s .args .t1 .entries) (s .args .t1 .count) (c .before .before .before .before .loop .i) zeroEntry (c .before .before .before .before .loop .inv) (omega (arith, s .pre .few, s .pre .places)) (c .before .before .before .loop-test .taken) (sym (c .before .is-own .ensures) ∙ c .if1 .taken))
+returns c = let s = c .before .before .before .before .before in ap rankOf (search-hit (ownEntry (s .args .party) (s .args .number)) (s .args .t1 .entries) (s .args .t1 .count) (c .before .before .before .before .loop .i) zeroEntry (c .before .before .before .before .loop .inv) (omega (arith, s .pre .few, s .pre .places)) (c .before .before .before .loop-test .taken) (sym (c .before .is-own .ensures) ∙ c .if1 .taken))
 
 add-i : tie.Need-add-i Inv-loop μ-loop
 add-i c = search needs
@@ -38,11 +38,11 @@ loop-less : tie.Need-loop-less Inv-loop μ-loop
 loop-less c = search needs
 
 loop-again : tie.Need-loop-again Inv-loop μ-loop
-loop-again c = let s = c .before .before .before .before .before in search-past (own (s .args .party) (s .args .number)) (s .args .t1 .entries) (s .args .t1 .count) (c .before .before .before .before .loop .i) zeroEntry (c .before .before .before .before .loop .inv) (omega (arith, s .pre .few, s .pre .places)) (c .before .before .before .loop-test .taken) (sym (c .before .is-own .ensures) ∙ c .if1 .left)
+loop-again c = let s = c .before .before .before .before .before in search-past (ownEntry (s .args .party) (s .args .number)) (s .args .t1 .entries) (s .args .t1 .count) (c .before .before .before .before .loop .i) zeroEntry (c .before .before .before .before .loop .inv) (omega (arith, s .pre .few, s .pre .places)) (c .before .before .before .loop-test .taken) (sym (c .before .is-own .ensures) ∙ c .if1 .left)
 
 returns-2 : tie.Need-returns-2 Inv-loop μ-loop
 unfolding entryOf entriesOf
-returns-2 c = let s = c .before .before in ap rankOf (search-none (own (s .args .party) (s .args .number)) (s .args .t1 .entries) (s .args .t1 .count) (c .before .loop .i) (c .before .loop .inv) (c .loop-test .left))
+returns-2 c = let s = c .before .before in ap rankOf (search-none (ownEntry (s .args .party) (s .args .number)) (s .args .t1 .entries) (s .args .t1 .count) (c .before .loop .i) (c .before .loop .inv) (c .loop-test .left))
 
 pub find-entry-spec : {M : Type 1} → statement M
 find-entry-spec =

@@ -1,6 +1,6 @@
 use Rattle.book.proofs.LookLaws.{lower-turn, held-rank}
 use Rattle.book.specs.Shape.{zeroEntry, entriesOf}
-use Rattle.book.specs.Look.{lower, eligible, priority, bestContra}
+use Rattle.book.specs.Look.{lowerKey, eligible, priority, bestContra}
 use Rattle.lists.proofs.LoopLaws.{Lowering, lower-start, lower-done}
 use native.Mathlib.Omega.{arith}
 use mathlib.Core.Path.{ap, _∙_}
@@ -37,7 +37,7 @@ loop-less : tie.Need-loop-less Inv-loop μ-loop
 loop-less c = search needs
 
 loop-again : tie.Need-loop-again Inv-loop μ-loop
-loop-again c = let s = c .before .before .before .before .before in let l = c .before .before .before .before .loop in lower-turn (l .held) zeroEntry (c .lower-of .result) (l .inv) (omega (arith, s .pre .few, s .pre .places)) (c .before .before .before .loop-test .taken) (c .before .contra-key .ensures .1) (c .lower-of .ensures ∙ ap (lower (l .held) (l .i)) (c .before .contra-key .ensures .0))
+loop-again c = let s = c .before .before .before .before .before in let l = c .before .before .before .before .loop in lower-turn (l .held) zeroEntry (c .lower-of .result) (l .inv) (omega (arith, s .pre .few, s .pre .places)) (c .before .before .before .loop-test .taken) (c .before .contra-key .ensures .1) (c .lower-of .ensures ∙ ap (lowerKey (l .held) (l .i)) (c .before .contra-key .ensures .0))
 
 rank-of-requires : tie.Need-rank-of-requires Inv-loop μ-loop
 rank-of-requires c κs = search needs

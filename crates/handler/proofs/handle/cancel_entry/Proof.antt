@@ -1,5 +1,5 @@
 use Rattle.book.specs.Shape.{entriesOf}
-use Rattle.book.specs.Entries.{own}
+use Rattle.book.specs.Entries.{ownEntry}
 use Rattle.book.specs.Look.{entryOf}
 use Rattle.book.proofs.LookLaws.{entry-tells}
 use Rattle.telling.proofs.StageLaws.{staged-as}
@@ -15,7 +15,7 @@ cut-rank-requires : tie.Need-cut-rank-requires
 cut-rank-requires c κs =
     let s = c .before .before .before .before in
     let l = entriesOf (s .args .b) in
-    rank-cuts (own (s .args .party) (s .args .entry)) (λ _. 0) (s .args .b) (s .pre .well) 28 (entryOf (s .args .party) (s .args .entry) l) _ (entry-tells l (s .args .party) (s .args .entry)) (c .before .before .find-entry .ensures) (s .pre .roomy)
+    rank-cuts (ownEntry (s .args .party) (s .args .entry)) (λ _. 0) (s .args .b) (s .pre .well) 28 (entryOf (s .args .party) (s .args .entry) l) _ (entry-tells l (s .args .party) (s .args .entry)) (c .before .before .find-entry .ensures) (s .pre .roomy)
 
 same-length : tie.Need-same-length
 same-length c = search needs
@@ -24,7 +24,7 @@ returns : tie.Need-returns
 returns c =
     let s = c .before .before .before .before .before .before .before in
     let l = entriesOf (s .args .b) in
-    staged-as (cut-rank (own (s .args .party) (s .args .entry)) (λ _. 0) (s .args .b) (s .pre .well) 28 (entryOf (s .args .party) (s .args .entry) l) _ (entry-tells l (s .args .party) (s .args .entry)) (c .before .before .before .before .before .find-entry .ensures)) (c .before .before .cut-rank .ensures)
+    staged-as (cut-rank (ownEntry (s .args .party) (s .args .entry)) (λ _. 0) (s .args .b) (s .pre .well) 28 (entryOf (s .args .party) (s .args .entry) l) _ (entry-tells l (s .args .party) (s .args .entry)) (c .before .before .before .before .before .find-entry .ensures)) (c .before .before .cut-rank .ensures)
 
 pub cancel-entry-spec : {M : Type 1} → statement M
 cancel-entry-spec =

@@ -9,14 +9,14 @@ is-legal-requires c κs = search needs
 returns : tie.Need-returns
 returns c = rw (le-leb _ _ (c .before .if1 .taken), c .is-legal .ensures)
 
-is-given-requires : tie.Need-is-given-requires
-is-given-requires c κs = search needs
+is-none-or-legal-requires : tie.Need-is-none-or-legal-requires
+is-none-or-legal-requires c κs = search needs
 
-is-given-requires-2 : tie.Need-is-given-requires-2
-is-given-requires-2 c κs = search needs
+is-none-or-legal-requires-2 : tie.Need-is-none-or-legal-requires-2
+is-none-or-legal-requires-2 c κs = search needs
 
 returns-2 : tie.Need-returns-2
-returns-2 c = rw (lt-leb _ _ (c .before .before .before .before .if1 .left), c .before .before .if2 .taken, c .before .is-given .ensures, c .is-given2 .ensures)
+returns-2 c = rw (lt-leb _ _ (c .before .before .before .before .if1 .left), c .before .before .if2 .taken, c .before .is-none-or-legal .ensures, c .is-none-or-legal2 .ensures)
 
 returns-3 : tie.Need-returns-3
 returns-3 c = rw (c .before .if3 .taken)
@@ -30,8 +30,8 @@ is-bad-price-spec =
     (tie.spec
     is-legal-requires
     returns
-    is-given-requires
-    is-given-requires-2
+    is-none-or-legal-requires
+    is-none-or-legal-requires-2
     returns-2
     returns-3
     returns-4)

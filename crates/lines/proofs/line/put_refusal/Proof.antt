@@ -4,8 +4,8 @@ use mathlib.Core.Path.{refl}
 use native.Mathlib.Omega.{arith}
 use lib.ListN.{length}
 use Rattle.lines.specs.Decimal.{decimal}
-use Rattle.lines.specs.Lines.{refused, refusalLine}
-use Rattle.lines.specs.Buffer.{Put}
+use Rattle.lines.specs.Lines.{refusedWord, refusalLine}
+use Rattle.lines.specs.Buffer.{TextPut}
 use Rattle.lines.proofs.BufferLaws.{put-byte, put-then, put-length, room-front, room-behind}
 use Rattle.lines.proofs.LineLaws.{refusal-length}
 use borrow.Author.Needs.{needs}
@@ -14,10 +14,10 @@ use Rattle.lines.proofs.line.put_refusal.Tie as tie
 
 -- the number and the word
 worded : (c : tie.After-put-number-arg2)
-    → Put
+    → TextPut
     (c .before .before .before .before .before .before .before .before .before .before .before .args .out .now)
     (c .before .before .before .before .before .before .before .before .before .before .before .args .at)
-    (decimal (c .before .before .before .before .before .before .before .before .before .before .before .args .number) ++ refused)
+    (decimal (c .before .before .before .before .before .before .before .before .before .before .before .args .number) ++ refusedWord)
     (c .before .before .before .store .last .0)
     (c .before .before .before .before .before .before .before .before .put-number .result + 9)
 worded c = put-then (c .before .before .before .before .before .before .before .before .put-number .ensures) (record { stored = c .before .before .before .store .ensures; ends = refl })
@@ -28,14 +28,14 @@ unfolding refusalLine
 worded-room c =
     let s = c .before .before .before .before .before .before .before .before .before .before .before in
     room-behind (decimal (s .args .refusal)) (worded c)
-    (room-front (s .args .out .now) (s .args .at) (decimal (s .args .number) ++ refused ++ decimal (s .args .refusal)) (10 ∷ []) (s .pre))
+    (room-front (s .args .out .now) (s .args .at) (decimal (s .args .number) ++ refusedWord ++ decimal (s .args .refusal)) (10 ∷ []) (s .pre))
 
 -- and the refusal
 told : (c : tie.After-slice-known4)
-    → Put
+    → TextPut
     (c .before .before .before .before .before .before .before .before .before .before .before .before .before .before .args .out .now)
     (c .before .before .before .before .before .before .before .before .before .before .before .before .before .before .args .at)
-    (decimal (c .before .before .before .before .before .before .before .before .before .before .before .before .before .before .args .number) ++ refused ++ decimal (c .before .before .before .before .before .before .before .before .before .before .before .before .before .before .args .refusal))
+    (decimal (c .before .before .before .before .before .before .before .before .before .before .before .before .before .before .args .number) ++ refusedWord ++ decimal (c .before .before .before .before .before .before .before .before .before .before .before .before .before .before .args .refusal))
     (c .before .before .put-number2 .last .0)
     (c .before .before .put-number2 .result)
 told c = put-then (worded (c .before .before .before)) (c .before .before .put-number2 .ensures)

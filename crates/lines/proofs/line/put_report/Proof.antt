@@ -5,7 +5,7 @@ use lib.ListN.{length}
 use Rattle.packing.specs.Report.{fieldsOf}
 use Rattle.lines.specs.Decimal.{decimal}
 use Rattle.lines.specs.Lines.{spaced, reportLine}
-use Rattle.lines.specs.Buffer.{Put}
+use Rattle.lines.specs.Buffer.{TextPut}
 use Rattle.lines.proofs.BufferLaws.{put-byte, put-then, put-length, room-behind}
 use Rattle.lines.proofs.LineLaws.{report-length}
 use borrow.Author.Needs.{needs}
@@ -14,7 +14,7 @@ use Rattle.lines.proofs.line.put_report.Tie as tie
 
 -- the number and the fields
 told : (c : tie.After-slice-known3)
-    → Put
+    → TextPut
     (c .before .before .before .before .before .before .before .before .before .before .args .out .now)
     (c .before .before .before .before .before .before .before .before .before .before .args .at)
     (decimal (c .before .before .before .before .before .before .before .before .before .before .args .number) ++ spaced (fieldsOf (c .before .before .before .before .before .before .before .before .before .before .args .report)))

@@ -1,55 +1,55 @@
 use mathlib.Core.Path.{sym, ap}
-use Rattle.packing.specs.Message.{kinds, unpacked}
+use Rattle.packing.specs.Message.{byKind, unpacked}
 use Rattle.packing.proofs.MessageLaws.{unknown-kind}
 use Rattle.packing.proofs.message.event_by.Statement.{statement}
 use Rattle.packing.proofs.message.event_by.Tie as tie
 
 returns : tie.Need-returns
-unfolding kinds
+unfolding byKind
 returns c = rw (c .match .keys1)
 
 returns-2 : tie.Need-returns-2
-unfolding kinds
+unfolding byKind
 returns-2 c = rw (c .match .keys2)
 
 returns-3 : tie.Need-returns-3
-unfolding kinds
+unfolding byKind
 returns-3 c = rw (c .match .keys3)
 
 returns-4 : tie.Need-returns-4
-unfolding kinds
+unfolding byKind
 returns-4 c = rw (c .match .keys4)
 
 returns-5 : tie.Need-returns-5
-unfolding kinds
+unfolding byKind
 returns-5 c = rw (c .match .keys5)
 
 returns-6 : tie.Need-returns-6
-unfolding kinds
+unfolding byKind
 returns-6 c = rw (c .match .keys6)
 
 returns-7 : tie.Need-returns-7
-unfolding kinds
+unfolding byKind
 returns-7 c = rw (c .match .keys7)
 
 returns-8 : tie.Need-returns-8
-unfolding kinds
+unfolding byKind
 returns-8 c = rw (c .match .keys8)
 
 returns-9 : tie.Need-returns-9
-unfolding kinds
+unfolding byKind
 returns-9 c = rw (c .match .keys9)
 
 returns-10 : tie.Need-returns-10
-unfolding kinds
+unfolding byKind
 returns-10 c = rw (c .match .keys10)
 
 returns-11 : tie.Need-returns-11
-unfolding kinds
+unfolding byKind
 returns-11 c = rw (c .match .keys11)
 
 returns-12 : tie.Need-returns-12
-unfolding kinds
+unfolding byKind
 returns-12 c = rw (c .match .keys12)
 
 returns-13 : tie.Need-returns-13

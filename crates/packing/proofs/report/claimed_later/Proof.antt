@@ -1,5 +1,5 @@
 use mathlib.Core.Path.{sym, ap}
-use Rattle.packing.specs.Report.{kinds, unpacked}
+use Rattle.packing.specs.Report.{byKind, unpacked}
 use Rattle.packing.proofs.ReportLaws.{unknown-kind}
 use borrow.Author.Needs.{needs}
 use Rattle.packing.proofs.report.claimed_later.Statement.{statement}
@@ -30,15 +30,15 @@ array-read-quantity : tie.Need-array-read-quantity
 array-read-quantity c = search needs
 
 returns : tie.Need-returns
-unfolding kinds
+unfolding byKind
 returns c = rw (c .match .keys1)
 
 returns-2 : tie.Need-returns-2
-unfolding kinds
+unfolding byKind
 returns-2 c = rw (c .match .keys2)
 
 returns-3 : tie.Need-returns-3
-unfolding kinds
+unfolding byKind
 returns-3 c = rw (c .match .keys3)
 
 returns-4 : tie.Need-returns-4

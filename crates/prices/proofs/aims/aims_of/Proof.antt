@@ -1,5 +1,5 @@
 use Rattle.prices.proofs.AimLaws.{given-minded}
-use Rattle.prices.proofs.StepLaws.{is-given, given-is}
+use Rattle.prices.proofs.StepLaws.{is-none-or-legal, given-is}
 use Rattle.prices.specs.Aims.{aimDisplay, aimWorking}
 use borrow.Author.Needs.{needs}
 use Rattle.prices.proofs.aims.aims_of.Statement.{statement}
@@ -12,13 +12,13 @@ held-short-requires : tie.Need-held-short-requires
 held-short-requires c κs = search needs
 
 held-short-requires-2 : tie.Need-held-short-requires-2
-held-short-requires-2 c κs = (c .before .before .pre .step, rw (c .before .contra-minded .ensures) (given-is (given-minded _ (is-given _ _ (c .before .before .pre .contra)))))
+held-short-requires-2 c κs = (c .before .before .pre .step, rw (c .before .contra-minded .ensures) (given-is (given-minded _ (is-none-or-legal _ _ (c .before .before .pre .contra)))))
 
 held-to-requires : tie.Need-held-to-requires
 held-to-requires c κs = search needs
 
 held-short-requires-3 : tie.Need-held-short-requires-3
-held-short-requires-3 c κs = (c .before .before .before .before .pre .step, rw (c .before .before .before .contra-minded .ensures) (given-is (given-minded _ (is-given _ _ (c .before .before .before .before .pre .contra)))))
+held-short-requires-3 c κs = (c .before .before .before .before .pre .step, rw (c .before .before .before .contra-minded .ensures) (given-is (given-minded _ (is-none-or-legal _ _ (c .before .before .before .before .pre .contra)))))
 
 returns : tie.Need-returns
 unfolding aimDisplay aimWorking

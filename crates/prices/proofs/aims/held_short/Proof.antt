@@ -1,4 +1,4 @@
-use Rattle.prices.proofs.StepLaws.{legal-is, is-given}
+use Rattle.prices.proofs.StepLaws.{legal-is, is-none-or-legal}
 use borrow.Author.Tests.{eq-eqb, ne-eqb}
 use Rattle.prices.specs.Aims.{shortOf}
 use borrow.Author.Needs.{needs}
@@ -10,7 +10,7 @@ unfolding shortOf
 returns c = rw (eq-eqb _ 0 (c .if1 .taken))
 
 one-back-requires : tie.Need-one-back-requires
-one-back-requires c κs = (c .before .pre .0, legal-is (is-given _ _ (c .before .pre .1) .legal (ne-eqb _ 0 (c .if1 .left))))
+one-back-requires c κs = (c .before .pre .0, legal-is (is-none-or-legal _ _ (c .before .pre .1) .legal (ne-eqb _ 0 (c .if1 .left))))
 
 meeker-requires : tie.Need-meeker-requires
 meeker-requires c κs = search needs

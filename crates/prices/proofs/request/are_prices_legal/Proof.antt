@@ -5,15 +5,15 @@ use Rattle.prices.proofs.request.are_prices_legal.Tie as tie
 is-legal-requires : tie.Need-is-legal-requires
 is-legal-requires c κs = search needs
 
-is-given-requires : tie.Need-is-given-requires
-is-given-requires c κs = search needs
+is-none-or-legal-requires : tie.Need-is-none-or-legal-requires
+is-none-or-legal-requires c κs = search needs
 
-is-given-requires-2 : tie.Need-is-given-requires-2
-is-given-requires-2 c κs = search needs
+is-none-or-legal-requires-2 : tie.Need-is-none-or-legal-requires-2
+is-none-or-legal-requires-2 c κs = search needs
 
 returns : tie.Need-returns
-returns c = rw (c .is-given2 .ensures, c .before .is-given .ensures, c .before .before .is-legal .ensures)
+returns c = rw (c .is-none-or-legal2 .ensures, c .before .is-none-or-legal .ensures, c .before .before .is-legal .ensures)
 
 pub are-prices-legal-spec : {M : Type 1} → statement M
 are-prices-legal-spec =
-    tie.close (tie.spec is-legal-requires is-given-requires is-given-requires-2 returns)
+    tie.close (tie.spec is-legal-requires is-none-or-legal-requires is-none-or-legal-requires-2 returns)

@@ -1,4 +1,4 @@
-use Rattle.prices.specs.Rest.{resting}
+use Rattle.prices.specs.Rest.{restingPrices}
 use borrow.Author.Needs.{needs}
 use Rattle.prices.proofs.rest.resting_of.Statement.{statement}
 use Rattle.prices.proofs.rest.resting_of.Tie as tie
@@ -10,7 +10,7 @@ keener-requires-2 : tie.Need-keener-requires-2
 keener-requires-2 c κs = search needs
 
 returns : tie.Need-returns
-unfolding resting
+unfolding restingPrices
 returns c = rw (c .keener2 .ensures, c .before .keener .ensures)
 
 pub resting-of-spec : {M : Type 1} → statement M

@@ -15,15 +15,15 @@ returns c = rw (← c .before .is-mpv .ensures, not-true (c .before .is-mpv .res
 is-between-requires : tie.Need-is-between-requires
 is-between-requires c κs = search needs
 
-is-given-requires : tie.Need-is-given-requires
-is-given-requires c κs = sym (c .before .before .before .before .is-mpv .ensures) ∙ not-false (c .before .before .before .before .is-mpv .result) (c .before .before .before .if1 .left)
+is-none-or-legal-requires : tie.Need-is-none-or-legal-requires
+is-none-or-legal-requires c κs = sym (c .before .before .before .before .is-mpv .ensures) ∙ not-false (c .before .before .before .before .is-mpv .result) (c .before .before .before .if1 .left)
 
-is-given-requires-2 : tie.Need-is-given-requires-2
-is-given-requires-2 c κs = sym (c .before .before .before .before .before .is-mpv .ensures) ∙ not-false (c .before .before .before .before .before .is-mpv .result) (c .before .before .before .before .if1 .left)
+is-none-or-legal-requires-2 : tie.Need-is-none-or-legal-requires-2
+is-none-or-legal-requires-2 c κs = sym (c .before .before .before .before .before .is-mpv .ensures) ∙ not-false (c .before .before .before .before .before .is-mpv .result) (c .before .before .before .before .if1 .left)
 
 returns-2 : tie.Need-returns-2
 unfolding soundTerms
-returns-2 c = rw (← c .before .before .before .before .before .before .before .before .is-mpv .ensures, not-false (c .before .before .before .before .before .before .before .before .is-mpv .result) (c .before .before .before .before .before .before .before .if1 .left), c .before .before .before .before .before .is-between .ensures, c .before .before .before .is-given .ensures, c .before .before .is-given2 .ensures)
+returns-2 c = rw (← c .before .before .before .before .before .before .before .before .is-mpv .ensures, not-false (c .before .before .before .before .before .before .before .before .is-mpv .result) (c .before .before .before .before .before .before .before .if1 .left), c .before .before .before .before .before .is-between .ensures, c .before .before .before .is-none-or-legal .ensures, c .before .before .is-none-or-legal2 .ensures)
 
 pub are-terms-sound-spec : {M : Type 1} → statement M
 are-terms-sound-spec =
@@ -32,6 +32,6 @@ are-terms-sound-spec =
     is-mpv-requires
     returns
     is-between-requires
-    is-given-requires
-    is-given-requires-2
+    is-none-or-legal-requires
+    is-none-or-legal-requires-2
     returns-2)

@@ -2,7 +2,7 @@ use Rattle.book.proofs.RankLaws.{key-is}
 use lib.ListN.{getD}
 use Rattle.settling_theory.specs.Settle.{easing}
 use Rattle.book.proofs.LookLaws.{number, lower-turn, held-rank}
-use Rattle.book.specs.Look.{lower, lowest}
+use Rattle.book.specs.Look.{lowerKey, lowest}
 use Rattle.book.specs.Shape.{zeroEntry, entriesOf}
 use Rattle.lists.proofs.LoopLaws.{Lowering, lower-start, lower-done}
 use native.Mathlib.Omega.{arith}
@@ -46,7 +46,7 @@ loop-again : tie.Need-loop-again Inv-loop μ-loop
 loop-again c =
     let s = c .before .before .before .before .before .before in
     let l = c .before .before .before .before .before .loop in
-    lower-turn (l .held) zeroEntry (c .lower-of .result) (l .inv) (omega (arith, s .pre .few, s .pre .places)) (c .before .before .before .before .loop-test .taken) (λ _. c .before .number-key .ensures .1) (c .lower-of .ensures ∙ ap (lower (l .held) (l .i)) (key-is (easing (s .args .market)) (getD (s .args .t1 .entries) (l .i) zeroEntry) (c .before .number-key .result) (c .before .number-key .ensures .0) (c .before .before .is-entry-easing .ensures)))
+    lower-turn (l .held) zeroEntry (c .lower-of .result) (l .inv) (omega (arith, s .pre .few, s .pre .places)) (c .before .before .before .before .loop-test .taken) (λ _. c .before .number-key .ensures .1) (c .lower-of .ensures ∙ ap (lowerKey (l .held) (l .i)) (key-is (easing (s .args .market)) (getD (s .args .t1 .entries) (l .i) zeroEntry) (c .before .number-key .result) (c .before .number-key .ensures .0) (c .before .before .is-entry-easing .ensures)))
 
 rank-of-requires : tie.Need-rank-of-requires Inv-loop μ-loop
 rank-of-requires c κs = search needs

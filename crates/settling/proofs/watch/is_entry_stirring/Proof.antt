@@ -20,8 +20,8 @@ away-of-requires-2 c κs = search needs
 kind-of-requires : tie.Need-kind-of-requires
 kind-of-requires c κs = search needs
 
-is-restless-requires : tie.Need-is-restless-requires
-is-restless-requires c κs =
+is-stirring-at-requires : tie.Need-is-stirring-at-requires
+is-stirring-at-requires c κs =
     let s = c .before .before .before .before .before .before in
     rw (c .before .before .away-of .ensures, c .before .away-of2 .ensures) (s .pre .bounds (s .args .e .sell))
 
@@ -33,7 +33,7 @@ returns-2 c = search needs
 
 returns-3 : tie.Need-returns-3
 returns-3 c =
-    rw (c .before .before .before .before .before .p .given .1, c .is-restless .ensures, c .before .kind-of .ensures, c .before .before .away-of2 .ensures, c .before .before .before .away-of .ensures)
+    rw (c .before .before .before .before .before .p .given .1, c .is-stirring-at .ensures, c .before .kind-of .ensures, c .before .before .away-of2 .ensures, c .before .before .before .away-of .ensures)
 
 pub is-entry-stirring-spec : {M : Type 1} → statement M
 is-entry-stirring-spec =
@@ -45,7 +45,7 @@ is-entry-stirring-spec =
     away-of-requires
     away-of-requires-2
     kind-of-requires
-    is-restless-requires
+    is-stirring-at-requires
     returns
     returns-2
     returns-3)

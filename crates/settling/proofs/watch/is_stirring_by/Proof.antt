@@ -1,6 +1,6 @@
 use Rattle.settling.proofs.Judging.{watched-bounds}
 use Rattle.settling.proofs.RankLaws.{stirring-is}
-use Rattle.settling_theory.specs.Settle.{stirring, stirs}
+use Rattle.settling_theory.specs.Settle.{stirring, anyStirs}
 use Rattle.book.specs.Shape.{zeroEntry, entriesOf}
 use Rattle.lists.proofs.LoopLaws.{Asking, ask-start, ask-past, ask-hit, ask-none}
 use lib.ListN.{getD}
@@ -30,7 +30,7 @@ is-entry-stirring-requires : tie.Need-is-entry-stirring-requires Inv-loop μ-loo
 is-entry-stirring-requires c κs = watched-bounds (c .before .before .before .pre)
 
 returns : tie.Need-returns Inv-loop μ-loop
-unfolding stirs entriesOf
+unfolding anyStirs entriesOf
 returns c =
     let s = c .before .before .before .before .before in
     let b = s .args .t1 in
@@ -51,7 +51,7 @@ loop-again c =
     ask-past (stirring (s .args .market) (entriesOf b)) (b .entries) (b .count) i zeroEntry (c .before .before .before .before .loop .inv) (omega (arith, s .pre .well .few, s .pre .well .places)) (c .before .before .before .loop-test .taken) (sym (stirring-is (s .args .market) (s .args .own) (entriesOf b) (s .pre .known) (getD (b .entries) i zeroEntry)) ∙ sym (c .before .is-entry-stirring .ensures) ∙ c .if1 .left)
 
 returns-2 : tie.Need-returns-2 Inv-loop μ-loop
-unfolding stirs entriesOf
+unfolding anyStirs entriesOf
 returns-2 c =
     let s = c .before .before in
     let b = s .args .t1 in
