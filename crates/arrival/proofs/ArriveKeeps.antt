@@ -126,8 +126,7 @@ module _ (t : Terms) (e : Entry) (l : List Entry) (a : Arriving t e l) where
     new-facts left p some most f = record {
       counted = omega (arith, a .number);
       given = omega (arith, a .number);
-      kind-low = a .kind-low;
-      kind-high = a .kind-high;
+      entering = a .entering;
       party-low = a .party-low;
       party-high = a .party-high;
       maker = a .maker;

@@ -7,7 +7,7 @@ use mathlib.Core.Bool.{Bool, true, false, cond, not}
 use mathlib.Core.List.{List}
 use native.Mathlib.Omega.{arith}
 use Rattle.prices.specs.Side.{reaches}
-use Rattle.prices.specs.Aims.{minds}
+use Rattle.kinds.specs.Kinds.{minds}
 use Rattle.lists.specs.Tests.{All}
 use Rattle.lists.specs.Choose.{Found, nowhere, found}
 use Rattle.lists.specs.Run.{Ran, still, andThen}

@@ -11,7 +11,8 @@ use Rattle.prices.specs.declared.Market.{Market}
 use Rattle.prices.specs.declared.Prices.{Prices}
 use Rattle.prices.specs.Side.{away}
 use Rattle.prices.specs.Step.{mpv, noneOrLegal}
-use Rattle.prices.specs.Aims.{sliding, minds, aims, Bounds}
+use Rattle.kinds.specs.Kinds.{sliding, minds}
+use Rattle.prices.specs.Aims.{aims, Bounds}
 use Rattle.prices.specs.Protect.{Cents}
 use Rattle.prices.proofs.StepLaws.{NoneOrLegal, given-is, given-none, given-legal, is-legal}
 use Rattle.lists.specs.Run.{Ran, still, leading, ran, andThen}

@@ -8,7 +8,7 @@ use native.Mathlib.Omega.{arith}
 use lib.ListN.{length}
 use borrow.Author.Tests.{not-true, not-false}
 use Rattle.prices.specs.declared.Market.{Market}
-use Rattle.prices.specs.Aims.{minds}
+use Rattle.kinds.specs.Kinds.{minds}
 use Rattle.lists.specs.Run.{Ran, still, andThen}
 use Rattle.packing.specs.declared.report.Report.{Report}
 use Rattle.packing.proofs.RoomLaws.{written-none}

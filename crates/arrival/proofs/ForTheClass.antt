@@ -10,7 +10,9 @@ use lib.Dec.{eqb}
 use borrow.Author.Tests.{eqb-false, ne-eqb, eq-eqb}
 use Rattle.prices.specs.declared.Prices.{Prices}
 use Rattle.prices.specs.Side.{reaches, away}
-use Rattle.prices.specs.Aims.{sliding, minds, aimDisplay, aimWorking, aims}
+use Rattle.kinds.specs.Kinds.{sliding, minds}
+use Rattle.kinds.proofs.KindLaws.{minds-sliding}
+use Rattle.prices.specs.Aims.{aimDisplay, aimWorking, aims}
 use Rattle.prices.proofs.FrameLaws.{seen, unreached}
 use Rattle.prices.proofs.StepLaws.{is-legal}
 use Rattle.lists.specs.Places.{At}
@@ -257,13 +259,12 @@ NoTrade (Repriced s party number display working quantity) = Unit {0}
 NoTrade (Cancelled why s party number limit quantity) = Unit {0}
 
 -- AN MMALO ADDS ON ARRIVAL: whatever the book, none of the reports of its arrival is of a trade (of all that it does while it rests: handler, ForTheClass)
-pub adds-on-arrival : (t : Terms) (e : Entry) (l : List Entry) → e .kind ≡ 3 → All NoTrade (arrived t e l .records)
-unfolding minds
+pub adds-on-arrival : (t : Terms) (e : Entry) (l : List Entry) → minds (e .kind) ≡ true → All NoTrade (arrived t e l .records)
 adds-on-arrival t e l k =
     arrived-says t e l NoTrade (record {
       rejects = λ p why. tt;
       cancels = λ p why s x o. tt;
-      trades = λ mi y n w. clash (eq-eqb (e .kind) 3 k) mi;
+      trades = λ mi y n w. clash k mi;
       rests = λ left h. tt;
       stops = λ why left. tt;
     })
@@ -280,8 +281,8 @@ pub record PricedBy (t : Terms) (e : Entry) (l : List Entry) (s : Bool) (d w : �
   pub display-short : ShortOfAll s d l
   pub working-short : ShortOfAll s w l
   -- and they are the aims, with C the best of the working prices of all the entries that face it, dark or not
-  pub display-is : (c : ℕ) → Best s (Offered working s l) c → d ≡ aimDisplay (t .m) 3 s (e .limit) (away (marketOf t) s) c
-  pub working-is : (c : ℕ) → Best s (Offered working s l) c → w ≡ aimWorking (t .m) 3 s (e .limit) (away (marketOf t) s) c
+  pub display-is : (c : ℕ) → Best s (Offered working s l) c → d ≡ aimDisplay (t .m) (e .kind) s (e .limit) (away (marketOf t) s) c
+  pub working-is : (c : ℕ) → Best s (Offered working s l) c → w ≡ aimWorking (t .m) (e .kind) s (e .limit) (away (marketOf t) s) c
 
 -- where a report is that the entry rests, its prices are so
 abbrev pub PricedOff : Terms → Entry → List Entry → Report → Type 0
@@ -292,39 +293,36 @@ PricedOff t e l (Rested s party number display working quantity) = PricedBy t e 
 PricedOff t e l (Repriced s party number display working quantity) = Unit {0}
 PricedOff t e l (Cancelled why s party number limit quantity) = Unit {0}
 
-module _ (t : Terms) (e : Entry) (l : List Entry) (a : Arriving t e l) (k : e .kind ≡ 3) where
-  minding : minds (e .kind) ≡ true
-  unfolding minds
-  minding = eq-eqb (e .kind) 3 k
-
+module _ (t : Terms) (e : Entry) (l : List Entry) (a : Arriving t e l) (minding : minds (e .kind) ≡ true) where
   slider : sliding (e .kind) ≡ true
-  unfolding sliding
-  slider = rw k refl
+  slider = minds-sliding (e .kind) minding
 
   -- it takes nothing: the book that it is posted to is the one before, without the quote that it replaces
-  untouched : tradesOf t e l .final .book ≡ cutQuote 27 (e .party) (e .sell) l .final
+  untouched : tradesOf t e l .final .book ≡ replaced e l .final
   unfolding took still
-  untouched = rw (minding, k) refl
+  untouched = rw minding refl
 
   -- so all that face it are there
   facing-there : (i : ℕ) (y : Entry) → At l i y → against (e .sell) y ≡ true → Rests (tradesOf t e l .final .book) y
-  facing-there i y h f = rw untouched (quote-leaves 27 (e .party) (e .sell) l i y h (go (quoteOf (e .party) (e .sell) y) refl))
+  unfolding still
+  facing-there i y h f = rw untouched (by (quote e) refl)
     where
       go : (b : Bool) → quoteOf (e .party) (e .sell) y ≡ b → b ≡ false
       go true q = clash f (not-against (e .sell) y (of-maker (e .party) (e .sell) y q .side))
       go false q = refl
 
+      by : (b : Bool) → quote e ≡ b → Rests (replaced e l .final) y
+      by true q = rw q (quote-leaves 27 (e .party) (e .sell) l i y h (go (quoteOf (e .party) (e .sell) y) refl))
+      by false q = rw q (record { place = i; there = h })
+
   -- C is that of the book before
   same-c : (c : ℕ) → Best (e .sell) (Offered working (e .sell) l) c → contra (e .sell) (tradesOf t e l .final .book) ≡ c
-  same-c c b =
-      ap (contra (e .sell)) untouched ∙ ap (λ (x : Ran (List Entry) Report). contra (e .sell) (x .final)) (sym first)
-      ∙ same-contra t e l (before a) quoting ∙ best-one (contra-price-tells (e .sell) l) b
+  unfolding still
+  same-c c b = ap (contra (e .sell)) untouched ∙ by (quote e) refl ∙ best-one (contra-price-tells (e .sell) l) b
     where
-      quoting : quote e ≡ true
-      quoting = rw k refl
-
-      first : replaced e l ≡ cutQuote 27 (e .party) (e .sell) l
-      first = rw quoting refl
+      by : (q : Bool) → quote e ≡ q → contra (e .sell) (replaced e l .final) ≡ contra (e .sell) l
+      by true q = same-contra t e l (before a) q
+      by false q = rw q refl
 
   -- prices that may rest in a book where they are, are short of them all; and a display is no more aggressive than the price it works at
   fit-short : (left : ℕ) (b : List Entry) (p : Prices) → Fits (t .m) left e b p → ((i : ℕ) (y : Entry) → At l i y → against (e .sell) y ≡ true → Rests b y)
@@ -340,8 +338,14 @@ module _ (t : Terms) (e : Entry) (l : List Entry) (a : Arriving t e l) (k : e .k
           unreached (e .sell) d (y .working) (omega (arith, all-at (Clear (resting e left p)) b (r .place) y (fit .clear) (r .there) .clear f)))
 
   aims-are : pricesOf t e (tradesOf t e l .final .book)
-      ≡ aims (t .m) 3 (e .sell) (e .limit) (away (marketOf t) (e .sell)) (contra (e .sell) (tradesOf t e l .final .book))
-  aims-are = rw (slider, k) refl
+      ≡ aims (t .m) (e .kind) (e .sell) (e .limit) (away (marketOf t) (e .sell)) (contra (e .sell) (tradesOf t e l .final .book))
+  aims-are = rw slider refl
+
+  -- and the book is sound still
+  replaced-sound : (b : Bool) → quote e ≡ b → Sound (t .m) (t .given) (replaced e l .final)
+  unfolding still
+  replaced-sound true q = rw q (quote-sound 27 (e .party) (e .sell) l (before a))
+  replaced-sound false q = rw q (before a)
 
   priced-by : stopFor t e (tradesOf t e l .final .book) ≡ 0 → (p : Prices) → pricesOf t e (tradesOf t e l .final .book) ≡ p
       → PricedBy t e l (e .sell) (p .display) (p .working)
@@ -349,14 +353,14 @@ module _ (t : Terms) (e : Entry) (l : List Entry) (a : Arriving t e l) (k : e .k
       let b : List Entry = tradesOf t e l .final .book in
       let short = fit-short 1 b (pricesOf t e b)
       (fits t e b 1 (t .given) (market a)
-      (rw untouched (quote-sound 27 (e .party) (e .sell) l (before a))) (is-legal (t .m) (e .limit) (a .limit)) (λ mi. clash minding mi) h) facing-there in
+      (rw untouched (replaced-sound (quote e) refl)) (is-legal (t .m) (e .limit) (a .limit)) (λ mi. clash minding mi) h) facing-there in
       record {
         display-short = subst (λ (z : Prices). ShortOfAll (e .sell) (z .display) l) q (short .0);
         working-short = subst (λ (z : Prices). ShortOfAll (e .sell) (z .working) l) q (short .1);
         display-is = λ c best. ap (λ (z : Prices). z .display) (sym q ∙ aims-are)
-            ∙ ap (aimDisplay (t .m) 3 (e .sell) (e .limit) (away (marketOf t) (e .sell))) (same-c c best);
+            ∙ ap (aimDisplay (t .m) (e .kind) (e .sell) (e .limit) (away (marketOf t) (e .sell))) (same-c c best);
         working-is = λ c best. ap (λ (z : Prices). z .working) (sym q ∙ aims-are)
-            ∙ ap (aimWorking (t .m) 3 (e .sell) (e .limit) (away (marketOf t) (e .sell))) (same-c c best);
+            ∙ ap (aimWorking (t .m) (e .kind) (e .sell) (e .limit) (away (marketOf t) (e .sell))) (same-c c best);
       }
 
   rests-so : (left : ℕ) → stopFor t e (tradesOf t e l .final .book) ≡ 0 → PricedOff t e l (rested (resting e left (pricesOf t e (tradesOf t e l .final .book))))
@@ -367,7 +371,7 @@ module _ (t : Terms) (e : Entry) (l : List Entry) (a : Arriving t e l) (k : e .k
 
 -- AN MMALO BUY RESTS BELOW EVERY SELL, dark ones too, with its display and with its working price, a sell above every buy; and just there: both are its aims before
 -- the best price of them all
-pub priced-off-dark : {t : Terms} {e : Entry} {l : List Entry} → Arriving t e l → e .kind ≡ 3 → All (PricedOff t e l) (arrived t e l .records)
+pub priced-off-dark : {t : Terms} {e : Entry} {l : List Entry} → Arriving t e l → minds (e .kind) ≡ true → All (PricedOff t e l) (arrived t e l .records)
 priced-off-dark {t} {e} {l} a k =
     arrived-says t e l (PricedOff t e l) (record {
       rejects = λ p why. tt;

@@ -9,7 +9,7 @@ use native.Mathlib.Omega.{arith}
 use lib.Dec.{eqb}
 use Rattle.prices.specs.declared.Market.{Market}
 use Rattle.prices.specs.Side.{reaches, away}
-use Rattle.prices.specs.Aims.{minds}
+use Rattle.kinds.specs.Kinds.{minds}
 use Rattle.prices.proofs.FrameLaws.{seen-inj}
 use Rattle.lists.specs.Places.{At, without}
 use Rattle.lists.specs.Tests.{any}

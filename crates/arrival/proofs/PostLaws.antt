@@ -12,8 +12,10 @@ use borrow.Author.Tests.{eqb-true, eqb-false}
 use Rattle.prices.specs.declared.Prices.{Prices}
 use Rattle.prices.specs.declared.Market.{Market}
 use Rattle.prices.specs.Side.{away, meek, reaches}
-use Rattle.prices.specs.Step.{pastLast}
-use Rattle.prices.specs.Aims.{sliding, minds, minded, upTo, shortOf, aimWorking, aims}
+use Rattle.prices.specs.Step.{lastPrice}
+use Rattle.kinds.specs.Kinds.{sliding, minds, dark, light}
+use Rattle.kinds.proofs.KindLaws.{rigid-takes, sliding-heavy}
+use Rattle.prices.specs.Aims.{minded, upTo, shortOf, aimWorking, aims}
 use Rattle.prices.specs.Post.{bars20, bars22, bars23, firstStop, stopped}
 use Rattle.prices.proofs.FrameLaws.{seen, seen-high, seen-meek, meek-either, reaches-false, reaches-not}
 use Rattle.prices.proofs.StepLaws.{Legal, NoneOrLegal, within-last}
@@ -22,7 +24,7 @@ use Rattle.prices.proofs.RestLaws.{Slides, arrives}
 use Rattle.prices.proofs.QuoteLaws.{unmarketable, minding-rests}
 use Rattle.lists.specs.Places.{At}
 use Rattle.lists.specs.Tests.{All, any}
-use Rattle.lists.proofs.Bools.{or-false-left, cond-zero}
+use Rattle.lists.proofs.Bools.{cond-zero}
 use Rattle.lists.proofs.TestLaws.{all-at, all-of, any-false}
 use Rattle.packing.proofs.ReportLaws.{rested-packs}
 use Rattle.book.specs.declared.Entry.{Entry}
@@ -84,26 +86,13 @@ may-rest a b c d h =
 
 -- ---- its prices ----
 
--- what does not slide takes what it can reach, and so does MMRP; of these only kind 2 passes anybody over
-pub rigid-takes : (kind : ℕ) → sliding kind ≡ false → minds kind ≡ false
-unfolding sliding minds
-rigid-takes kind h = or-false-left (eqb kind 3) (eqb kind 4) h
-
-slider-takes-all : (kind : ℕ) → sliding kind ≡ true → eqb kind 2 ≡ false
-unfolding sliding
-slider-takes-all kind h = by (eqb kind 2) refl
-  where
-    by : (b : Bool) → eqb kind 2 ≡ b → b ≡ false
-    by true q = let g : false ≡ true = rw (eqb-true kind 2 q) at h in sym g
-    by false q = refl
-
 module _ (m kind : ℕ) (s : Bool) (limit w d : ℕ) where
   rigid-prices : sliding kind ≡ false → w ≡ limit → PricedAs m kind s limit w (pricingOf kind d)
-  rigid-prices q at = rw q (go (eqb kind 6) refl)
+  rigid-prices q at = rw q (go (dark kind) refl)
     where
-      go : (b : Bool) → eqb kind 6 ≡ b → PricedAs m kind s limit w (cond b Dark Fixed)
-      go true h = record { dark = eqb-true kind 6 h; at = at }
-      go false h = record { rigid = q; shown = eqb-false kind 6 h; at = at }
+      go : (b : Bool) → dark kind ≡ b → PricedAs m kind s limit w (cond b Dark Fixed)
+      go true h = record { dark = h; at = at }
+      go false h = record { rigid = q; shown = h; at = at }
 
   slider-prices : sliding kind ≡ true → Slides m s limit d w → PricedAs m kind s limit w (pricingOf kind d)
   slider-prices q sl = rw q (record { able = q; slides = sl })
@@ -130,12 +119,12 @@ module _ (t : Terms) (e : Entry) (l : List Entry) (left top : ℕ) (mk : MarketF
   at-limit : minds (e .kind) ≡ false → (not (eqb (away (marketOf t) (e .sell)) 0) && reaches (e .sell) (e .limit) (away (marketOf t) (e .sell))) ≡ false
       → bars21 e l ≡ false → (i : ℕ) (y : Entry) → At l i y → against (e .sell) y ≡ true → seen (e .sell) (e .limit) < seen (e .sell) (y .working)
   unfolding hiddenWithin
-  at-limit mi b20 b21 i y at f = by (eqb (e .kind) 2) refl (displayed y) refl b21
+  at-limit mi b20 b21 i y at f = by (light (e .kind)) refl (displayed y) refl b21
     where
       far : eligible (e .sell) (shownOnly e) y ≡ true → seen (e .sell) (e .limit) < seen (e .sell) (y .working)
       far g = omega (arith, bound-limit (marketOf t) e high b20, taken mi .beyond i y at g)
 
-      by : (b : Bool) → eqb (e .kind) 2 ≡ b → (v : Bool) → displayed y ≡ v → (b && any (hidden (e .sell) (e .limit)) l) ≡ false
+      by : (b : Bool) → light (e .kind) ≡ b → (v : Bool) → displayed y ≡ v → (b && any (hidden (e .sell) (e .limit)) l) ≡ false
           → seen (e .sell) (e .limit) < seen (e .sell) (y .working)
       by false q v w g = far (rw (f, q) refl)
       by true q true w g = far (rw (f, q, w) refl)
@@ -148,7 +137,7 @@ module _ (t : Terms) (e : Entry) (l : List Entry) (left top : ℕ) (mk : MarketF
   at-bound : minds (e .kind) ≡ false → sliding (e .kind) ≡ true → (i : ℕ) (y : Entry) → At l i y → against (e .sell) y ≡ true
       → seen (e .sell) (aim .working) < seen (e .sell) (y .working)
   unfolding aim aimWorking minded shortOf
-  at-bound mi sl i y at f = rw mi (taken mi .beyond i y at (rw (f, slider-takes-all (e .kind) sl) refl))
+  at-bound mi sl i y at f = rw mi (taken mi .beyond i y at (rw (f, sliding-heavy (e .kind) sl) refl))
 
   -- MMALO works short of what it faces
   short : minds (e .kind) ≡ true → seen (e .sell) (aim .working) < faced (e .sell) (contra (e .sell) l)
@@ -163,14 +152,14 @@ module _ (t : Terms) (e : Entry) (l : List Entry) (left top : ℕ) (mk : MarketF
 
   -- WHAT NOTHING STOPS MAY REST
   pub fits : stopFor t e l ≡ 0 → Fits (t .m) left e l (pricesOf t e l)
-  unfolding stopFor stopped pastLast aim
+  unfolding stopFor stopped aim
   fits h =
       let r = may-rest (bars20 (e .kind) (e .sell) (e .limit) (away (marketOf t) (e .sell))) (bars21 e l)
       (bars23 (t .m) (e .kind) (e .sell) (pricesOf t e l .display)) (bars22 (t .m) (t .k) (e .kind) (e .sell) (e .limit) (pricesOf t e l .display)) h in
       by (sliding (e .kind)) refl (r .0) (r .1 .0) (r .1 .1 .0)
     where
       by : (b : Bool) → sliding (e .kind) ≡ b → (not b && (not (eqb (away (marketOf t) (e .sell)) 0) && reaches (e .sell) (e .limit) (away (marketOf t) (e .sell)))) ≡ false
-          → bars21 e l ≡ false → (b && pastLast (t .m) (e .sell) ((cond b aim (record { display = e .limit; working = e .limit })) .display)) ≡ false
+          → bars21 e l ≡ false → (b && not (reaches (e .sell) ((cond b aim (record { display = e .limit; working = e .limit })) .display) (lastPrice (t .m) (e .sell)))) ≡ false
           → Fits (t .m) left e l (cond b aim (record { display = e .limit; working = e .limit }))
       by false q b20 b21 b23 = record {
         works = hl;

@@ -3,7 +3,8 @@
 use Prim.Native.Nat.{ℕ}
 use mathlib.Core.Path.{_≡_, refl}
 use mathlib.Core.Bool.{Bool, false}
-use Rattle.prices.specs.Aims.{minds, minded, aimDisplay, aimWorking, aims}
+use Rattle.kinds.specs.Kinds.{minds}
+use Rattle.prices.specs.Aims.{minded, aimDisplay, aimWorking, aims}
 
 pub unminded : (m kind : ℕ) (s : Bool) (l a c d : ℕ) → minds kind ≡ false → aims m kind s l a c ≡ aims m kind s l a d
 unfolding aimDisplay aimWorking minded

@@ -9,7 +9,7 @@ use lib.Dec.{eqb}
 use borrow.Author.Tests.{leb-false, lt-leb, eqb-true}
 use Rattle.prices.specs.declared.Market.{Market}
 use Rattle.prices.specs.Side.{reaches}
-use Rattle.prices.specs.Aims.{minds}
+use Rattle.kinds.specs.Kinds.{minds}
 use Rattle.prices.proofs.StepLaws.{present}
 use Rattle.lists.specs.Choose.{Found, nowhere, found}
 use Rattle.lists.specs.Run.{Complete, done, then, Ran, still}

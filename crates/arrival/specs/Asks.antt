@@ -6,6 +6,7 @@ use mathlib.Core.Path.{_≡_}
 use mathlib.Core.Bool.{Bool, true, false, not}
 use mathlib.Core.List.{List}
 use lib.ListN.{length}
+use Rattle.kinds.specs.Kinds.{enters}
 use Rattle.prices.specs.Step.{legal}
 use Rattle.prices.specs.Side.{away}
 use Rattle.lists.specs.Run.{Step, stop, go, Ran}
@@ -36,8 +37,7 @@ pub record Arriving (t : Terms) (e : Entry) (l : List Entry) : Type 0 where
   -- the next number, of which there are 1,000,000
   pub number : e .number ≡ t .given + 1
   pub fresh : t .given < 1000000
-  pub kind-low : 1 ≤ e .kind
-  pub kind-high : e .kind ≤ 6
+  pub entering : enters (e .kind) ≡ true
   pub party-low : 1 ≤ e .party
   pub party-high : e .party ≤ 99
   pub maker : quote e ≡ true → e .party ≤ 16

@@ -4,10 +4,10 @@ use Prim.Native.Nat.{ℕ, _≤_}
 use mathlib.Core.Path.{_≡_}
 use mathlib.Core.Bool.{Bool, true, cond, _&&_}
 use mathlib.Core.List.{List}
-use lib.Dec.{eqb}
 use Rattle.prices.specs.declared.Prices.{Prices}
 use Rattle.prices.specs.Side.{away}
-use Rattle.prices.specs.Aims.{sliding, minds, aims, Bounds}
+use Rattle.kinds.specs.Kinds.{sliding, minds, dark, light}
+use Rattle.prices.specs.Aims.{aims, Bounds}
 use Rattle.prices.specs.Post.{stopped}
 use Rattle.book.specs.declared.Entry.{Entry}
 use Rattle.book.specs.declared.Pricing.{Pricing}
@@ -28,7 +28,7 @@ abbrev pub pricesOf : Terms → Entry → List Entry → Prices
 pricesOf t e l = pricesBefore t e (contra (e .sell) l)
 
 abbrev pub pricingOf : ℕ → ℕ → Pricing
-pricingOf kind display = cond (sliding kind) (Sliding display) (cond (eqb kind 6) Dark Fixed)
+pricingOf kind display = cond (sliding kind) (Sliding display) (cond (dark kind) Dark Fixed)
 
 -- the entry as it rests, with what is left
 abbrev pub resting : Entry → ℕ → Prices → Entry
@@ -45,7 +45,7 @@ resting e left p = record {
 
 -- "21, MMLO and an undisplayed sell works at L or less"
 abbrev pub bars21 : Entry → List Entry → Bool
-bars21 e l = eqb (e .kind) 2 && hiddenWithin (e .sell) (e .limit) l
+bars21 e l = light (e .kind) && hiddenWithin (e .sell) (e .limit) l
 
 -- why what is left may not rest; 0 if it may
 unfoldable pub stopFor : Terms → Entry → List Entry → ℕ

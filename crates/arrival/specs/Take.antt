@@ -7,7 +7,8 @@ use lib.Dec.{eqb}
 use lib.ListN.{length}
 use Rattle.prices.specs.declared.Market.{Market}
 use Rattle.prices.specs.Side.{reaches, away}
-use Rattle.prices.specs.Aims.{minds, upTo}
+use Rattle.kinds.specs.Kinds.{minds, light}
+use Rattle.prices.specs.Aims.{upTo}
 use Rattle.lists.specs.Choose.{Found, nowhere, found}
 use Rattle.lists.specs.Run.{Step, stop, go, Ran, still, ran}
 use Rattle.packing.specs.declared.report.Report.{Report}
@@ -28,7 +29,7 @@ bound k e = upTo (e .sell) (away k (e .sell)) (e .limit)
 
 -- "MMLO arriving passes over undisplayed interest."
 abbrev pub shownOnly : Entry → Bool
-shownOnly e = eqb (e .kind) 2
+shownOnly e = light (e .kind)
 
 -- a price, 0 for none, and within a bound: a word for the code, which asks it of C before it looks for anybody
 abbrev pub offered : Bool → ℕ → ℕ → Bool

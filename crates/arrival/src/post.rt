@@ -4,9 +4,11 @@ use book::Entry;
 use book::Pricing;
 use book::entries::kind_of;
 use book::look::is_hidden_within;
+use kinds::is_dark;
+use kinds::is_light;
+use kinds::is_sliding;
 use prices::Prices;
 use prices::aims::aims_of;
-use prices::aims::is_sliding;
 use prices::post::stop_of;
 use prices::side::away_of;
 use terms::Terms;
@@ -40,7 +42,7 @@ fn pricing_of(kind: u32, display: u32) -> Pricing
     if is_sliding(kind) {
         return Pricing::Sliding(display);
     }
-    if kind == 6 {
+    if is_dark(kind) {
         return Pricing::Dark;
     }
     Pricing::Fixed
@@ -67,7 +69,7 @@ fn is_barred_21(b: Book, e: Entry) -> bool
     requires { ⌜ WellFormed b ⌝ }
     ensures { λ r. ⌜ r ≡ bars21 e (entriesOf b) ⌝ }
 {
-    if e.kind == 2 {
+    if is_light(kind_of(e)) {
         return is_hidden_within(b, e.sell, e.limit);
     }
     false

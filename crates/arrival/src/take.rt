@@ -4,8 +4,10 @@ use book::Entry;
 use book::Rank;
 use book::change::lesser;
 use book::change::taken as hit_at;
+use book::entries::kind_of;
 use book::entries::zero_entry;
 use book::look::best_contra;
+use kinds::is_light;
 use prices::Market;
 use prices::aims::held_to;
 use prices::side::away_of;
@@ -28,7 +30,7 @@ pub fn bound_of(market: Market, e: Entry) -> u32
 pub fn is_shown_only(e: Entry) -> bool
     ensures { λ r. ⌜ r ≡ shownOnly e ⌝ }
 {
-    e.kind == 2
+    is_light(kind_of(e))
 }
 
 // Whether there is anything at this price, 0 for none, and within the bound.

@@ -2,7 +2,8 @@
 -- Assumes nothing.
 use Prim.Native.Nat.{ℕ, _-_}
 use mathlib.Core.Bool.{Bool, not, _&&_, Bool·beq}
-use lib.Dec.{eqb, leb}
+use lib.Dec.{eqb}
+use Rattle.kinds.specs.Kinds.{quotes}
 use Rattle.prices.specs.declared.Prices.{Prices}
 use Rattle.book.specs.declared.Entry.{Entry}
 use Rattle.book.specs.declared.Pricing.{Pricing}
@@ -21,9 +22,8 @@ display e = shownAs (e .limit) (e .pricing)
 abbrev pub displayed : Entry → Bool
 displayed e = eqb (display e) (e .working)
 
--- kinds 1 to 4 are quotes
 abbrev pub quote : Entry → Bool
-quote e = leb (e .kind) 4
+quote e = quotes (e .kind)
 
 -- an entry on the side that a taker of side s trades with
 abbrev pub against : Bool → Entry → Bool

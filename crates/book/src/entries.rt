@@ -1,6 +1,7 @@
 // One entry.
 use crate::Entry;
 use crate::Pricing;
+use kinds::is_quoting;
 ghost use mathlib.Core.Path.{_≡_};
 ghost use Rattle.book.specs.Entries.{display, displayed, quote, against, ownEntry, quoteOf, priced};
 ghost use Rattle.book.specs.Shape.{zeroEntry};
@@ -55,7 +56,7 @@ pub fn is_displayed(e: Entry) -> bool
 pub fn is_quote(e: Entry) -> bool
     ensures { λ r. ⌜ r ≡ quote e ⌝ }
 {
-    e.kind <= 4
+    is_quoting(kind_of(e))
 }
 
 // Whether it stands on the side that a taker trades with.
@@ -74,7 +75,7 @@ pub fn is_own(party: u8, number: u32, e: Entry) -> bool
 pub fn is_quote_of(party: u8, sell: bool, e: Entry) -> bool
     ensures { λ r. ⌜ r ≡ quoteOf party sell e ⌝ }
 {
-    (e.kind <= 4) & ((e.party == party) & (e.sell == sell))
+    is_quote(e) & ((e.party == party) & (e.sell == sell))
 }
 
 // The entry at other prices.

@@ -24,7 +24,7 @@ use Rattle.soundness.specs.declared.Check.{Check}
 use Rattle.series.specs.declared.Series.{Series}
 use Rattle.handler.specs.declared.Ask.{Ask}
 use Rattle.handler.specs.declared.Answer.{Answer}
-use Rattle.handler.specs.Asked.{quotes}
+use Rattle.kinds.specs.Kinds.{quotes}
 use Rattle.handler.specs.Refuse.{refusalOf}
 use Rattle.handler.specs.Accept.{comer, ownPart, termsAfter, blockedAfter, settledIf}
 use Rattle.handler.specs.Acts.{Acts, SettlesIf, blockedBy}
@@ -47,13 +47,13 @@ module _ (s : Series) {check : Check} (a : Ask) (x : Acts s check a) {room : Lis
       subst (λ (y : Terms). SettlesIf y b room′ n′) (sym e)
       (record { well = first .well; sound = then-sound s a (acts-accepted x) space first; roomy = then-room s a (acts-accepted x) space first })
 
-  marked : (blocking : Bool) → blocking ≡ (quotes a && blocks (s .terms) (comer (s .terms .given) a) (entriesOf (s .book)))
+  marked : (blocking : Bool) → blocking ≡ (quotes (a .kind) && blocks (s .terms) (comer (s .terms .given) a) (entriesOf (s .book)))
       → blockedBy blocking a (s .blocked) ≡ blockedAfter (s .terms) a (entriesOf (s .book)) (s .blocked)
   unfolding blockedAfter
   marked blocking k = ap (λ (y : Bool). blockedBy y a (s .blocked)) k
 
   pub accept-done : {after : Book} {room″ : List ℕ} {n″ : ℕ} → Staged (settledIf t (entriesOf b)) room′ n′ after room″ n″
-      → (blocking : Bool) → blocking ≡ (quotes a && blocks (s .terms) (comer (s .terms .given) a) (entriesOf (s .book)))
+      → (blocking : Bool) → blocking ≡ (quotes (a .kind) && blocks (s .terms) (comer (s .terms .given) a) (entriesOf (s .book)))
       → (r : Series) → r ≡ record { terms = t; blocked = blockedBy blocking a (s .blocked); book = after }
       → inRoom (record { refusal = 0; count = n″; series = r }) room″ ≡ accepted s a room
   accept-done {after} {room″} {n″} second blocking k r q =

@@ -9,9 +9,10 @@ use native.Mathlib.Omega.{arith}
 use lib.Dec.{eqb}
 use lib.ListN.{length, length-append}
 use borrow.Author.Tests.{leb-true, eqb-true}
-use Rattle.prices.specs.Step.{mpv, noneOrLegal}
+use Rattle.prices.specs.Step.{mpv}
 use Rattle.lists.specs.Run.{Ran, still, andThen}
 use Rattle.lists.proofs.PlaceLaws.{length-none}
+use Rattle.lists.proofs.Bools.{clash}
 use Rattle.packing.specs.declared.report.Report.{Report}
 use Rattle.packing.specs.declared.report.Report.the-variants.{Noted}
 use Rattle.packing.specs.Room.{AllPack}
@@ -41,11 +42,13 @@ use Rattle.series.specs.SoundSeries.{SoundPhase}
 use Rattle.series.proofs.TermsLaws.{phase-open}
 use Rattle.series.proofs.SeriesFacts.{terms-market, facts-series}
 use Rattle.handler.specs.declared.Ask.{Ask}
-use Rattle.handler.specs.Asked.{askOf, enters}
+use Rattle.handler.specs.Asked.{askOf}
+use Rattle.kinds.specs.Kinds.{enters}
 use Rattle.handler.specs.Accept.{comer, ownPart, termsAfter, blockedAfter, settledIf, done, seriesAfter}
 use Rattle.handler.proofs.Passed.{Accepted, accepts, facts, enters-open, accepted-arriving, terms-legal, numbers-few}
 use Rattle.handler.proofs.Ways.{Accepting, accepting, handled-accepted}
 use Rattle.handler.specs.Handle.{handled}
+use Rattle.kinds.proofs.KindLaws.{no-such, stays-out}
 
 -- ---- one stage, of whatever kind ----
 
@@ -115,7 +118,7 @@ module _ (s : Series) (a : Ask) (ok : Accepted s a) where
   -- THE MESSAGE'S OWN PART
   pub own-part : Part (termsAfter (s .terms) a .m) (termsAfter (s .terms) a .given) (termsAfter (s .terms) a .phase) 72 (ownPart (s .terms) a (entriesOf (s .book)))
   unfolding ownPart termsAfter
-  own-part = go (enters a) refl (eqb (a .kind) 7) refl (eqb (a .kind) 8) refl (eqb (a .kind) 11) refl
+  own-part = go (enters (a .kind)) refl (eqb (a .kind) 7) refl (eqb (a .kind) 8) refl (eqb (a .kind) 11) refl
     where
       t : Terms
       t = s .terms
@@ -126,12 +129,12 @@ module _ (s : Series) (a : Ask) (ok : Accepted s a) where
       e : Entry
       e = comer (s .terms .given) a
 
-      go : (b : Bool) → enters a ≡ b → (b₇ : Bool) → eqb (a .kind) 7 ≡ b₇ → (b₈ : Bool) → eqb (a .kind) 8 ≡ b₈ → (b₁₁ : Bool) → eqb (a .kind) 11 ≡ b₁₁
+      go : (b : Bool) → enters (a .kind) ≡ b → (b₇ : Bool) → eqb (a .kind) 7 ≡ b₇ → (b₈ : Bool) → eqb (a .kind) 8 ≡ b₈ → (b₁₁ : Bool) → eqb (a .kind) 11 ≡ b₁₁
           → Part (t .m) (cond b (t .given + 1) (t .given)) (cond b₁₁ (a .quantity) (t .phase)) 72
           (cond b (arrived t e l)
           (cond b₇ (cancelEntry (a .party) (a .entry) l)
           (cond b₈ (cancelQuote (a .party) (a .sell) l) (cond b₁₁ (andThen (reported Noted l) (sweep (a .quantity))) (reported Noted l)))))
-      go true q b₇ q₇ b₈ q₈ true q₁₁ = absurd (omega (arith, leb-true (a .kind) 6 q, eqb-true (a .kind) 11 q₁₁))
+      go true q b₇ q₇ b₈ q₈ true q₁₁ = clash q₁₁ (no-such enters 11 (a .kind) (stays-out 11 refl) q)
       go true q b₇ q₇ b₈ q₈ false q₁₁ =
           let r = arrives (accepted-arriving s a ok q) in
           record { sound = r .sound; size = r .size; rests = rw (enters-open s a ok q) (phase-open _); fit = r .fit; few = own-few (accepted-arriving s a ok q) }

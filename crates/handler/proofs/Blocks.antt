@@ -21,8 +21,10 @@ use Rattle.arrival.proofs.ForTheClass.{one-side, two-sides}
 use Rattle.series.specs.declared.Series.{Series}
 use Rattle.series.specs.Series.{soundSeries}
 use Rattle.handler.specs.declared.Ask.{Ask}
-use Rattle.handler.specs.Asked.{askOf, quotes}
-use Rattle.handler.specs.Refuse.{makersOnly, badParty, badPrice, badQuantity, notOpen, refusalOf}
+use Rattle.handler.specs.Asked.{askOf}
+use Rattle.kinds.specs.Kinds.{quotes, makers, enters}
+use Rattle.kinds.proofs.KindLaws.{no-such, stays-out, quotes-enter, quotes-makers}
+use Rattle.handler.specs.Refuse.{badParty, badPrice, badQuantity, notOpen, refusalOf}
 use Rattle.handler.specs.Accept.{comer, blockedAfter, seriesAfter}
 use Rattle.handler.specs.Handle.{Handled, refused, handled}
 use Rattle.handler.proofs.Ways.{Accepting, accepting, handled-accepted, handled-refused}
@@ -40,13 +42,13 @@ rejectionOf s a = rejection (s .terms) (comer (s .terms .given) a) (entriesOf (s
 -- of the series s, what an accepted message asks of it, and the series afterwards
 pub record Blocking (s : Series) (a : Ask) (after : Series) : Type 0 where
   -- a quote rejected with 25 or 26 leaves its maker blocked;
-  pub blocked : quotes a ≡ true → 25 ≤ rejectionOf s a → isBlockedIn after (a .party) ≡ true
+  pub blocked : quotes (a .kind) ≡ true → 25 ≤ rejectionOf s a → isBlockedIn after (a .party) ≡ true
   -- kind 12 leaves its maker free;
   pub enabled : a .kind ≡ 12 → isBlockedIn after (a .party) ≡ false
   -- every other maker is as it was;
   pub others : (maker : ℕ) → 1 ≤ maker → (maker ≡ a .party → ⊥) → isBlockedIn after maker ≡ isBlockedIn s maker
   -- after any other message, a quote not rejected or rejected with 20 to 24 among them, every maker is as it was;
-  pub same : (a .kind ≡ 12 → ⊥) → (quotes a ≡ true → rejectionOf s a ≤ 24) → after .blocked ≡ s .blocked
+  pub same : (a .kind ≡ 12 → ⊥) → (quotes (a .kind) ≡ true → rejectionOf s a ≤ 24) → after .blocked ≡ s .blocked
   -- and there is still a flag for each of the 16 makers;
   pub flags : length (after .blocked) ≡ 16
   -- so that who is blocked stays so until kind 12 names it
@@ -54,39 +56,39 @@ pub record Blocking (s : Series) (a : Ask) (after : Series) : Type 0 where
 
 module _ (s : Series) (a : Ask) (ok : Accepted s a) (flags : length (s .blocked) ≡ 16) where
   -- a maker has a flag
-  party-flag : makersOnly a ≡ true → (1 ≤ a .party) × (a .party - 1 < length (s .blocked))
+  party-flag : makers (a .kind) ≡ true → (1 ≤ a .party) × (a .party - 1 < length (s .blocked))
   party-flag q = let p = maker-within a q (tests s a ok .party) in (p .0, omega (arith, p .0, p .1, flags))
 
-  quote-flag : quotes a ≡ true → makersOnly a ≡ true
-  quote-flag q = rw q refl
+  quote-flag : quotes (a .kind) ≡ true → makers (a .kind) ≡ true
+  quote-flag q = quotes-makers (a .kind) q
 
-  not-enable : quotes a ≡ true → eqb (a .kind) 12 ≡ false
-  not-enable q = ne-eqb (a .kind) 12 (λ k. omega (arith, leb-true (a .kind) 4 q))
+  not-enable : quotes (a .kind) ≡ true → eqb (a .kind) 12 ≡ false
+  not-enable q = no-such enters 12 (a .kind) (stays-out 12 refl) (quotes-enter (a .kind) q)
 
   -- the three ways
   enabled-is : a .kind ≡ 12 → seriesAfter s a .blocked ≡ set (s .blocked) (a .party - 1) false
   unfolding blockedAfter
   enabled-is k = rw (eq-eqb (a .kind) 12 k) refl
 
-  blocked-is : quotes a ≡ true → 25 ≤ rejectionOf s a → seriesAfter s a .blocked ≡ set (s .blocked) (a .party - 1) true
+  blocked-is : quotes (a .kind) ≡ true → 25 ≤ rejectionOf s a → seriesAfter s a .blocked ≡ set (s .blocked) (a .party - 1) true
   unfolding blockedAfter blocks
   blocked-is q low =
       rw (not-enable q, q, two-sides (rejectionOf s a) low (rejection-among (s .terms) (comer (s .terms .given) a) (entriesOf (s .book)) .most)) refl
 
-  same-is : (a .kind ≡ 12 → ⊥) → (quotes a ≡ true → rejectionOf s a ≤ 24) → seriesAfter s a .blocked ≡ s .blocked
+  same-is : (a .kind ≡ 12 → ⊥) → (quotes (a .kind) ≡ true → rejectionOf s a ≤ 24) → seriesAfter s a .blocked ≡ s .blocked
   unfolding blockedAfter blocks
-  same-is k low = rw (ne-eqb (a .kind) 12 k) (go (quotes a) refl)
+  same-is k low = rw (ne-eqb (a .kind) 12 k) (go (quotes (a .kind)) refl)
     where
-      go : (b : Bool) → quotes a ≡ b → cond (b && blocks (s .terms) (comer (s .terms .given) a) (entriesOf (s .book))) (set (s .blocked) (a .party - 1) true) (s .blocked) ≡ s .blocked
+      go : (b : Bool) → quotes (a .kind) ≡ b → cond (b && blocks (s .terms) (comer (s .terms .given) a) (entriesOf (s .book))) (set (s .blocked) (a .party - 1) true) (s .blocked) ≡ s .blocked
       go true q = rw (one-side (rejectionOf s a) (low q)) refl
       go false q = refl
 
   -- which of them it is: what holds in each holds afterwards
   by-ways : (C : List Bool → Type 0) → (a .kind ≡ 12 → C (set (s .blocked) (a .party - 1) false))
-      → (quotes a ≡ true → C (set (s .blocked) (a .party - 1) true)) → C (s .blocked) → C (seriesAfter s a .blocked)
-  by-ways C one two three = go (eqb (a .kind) 12) refl (quotes a) refl (leb 25 (rejectionOf s a)) refl
+      → (quotes (a .kind) ≡ true → C (set (s .blocked) (a .party - 1) true)) → C (s .blocked) → C (seriesAfter s a .blocked)
+  by-ways C one two three = go (eqb (a .kind) 12) refl (quotes (a .kind)) refl (leb 25 (rejectionOf s a)) refl
     where
-      go : (b : Bool) → eqb (a .kind) 12 ≡ b → (c : Bool) → quotes a ≡ c → (d : Bool) → leb 25 (rejectionOf s a) ≡ d → C (seriesAfter s a .blocked)
+      go : (b : Bool) → eqb (a .kind) 12 ≡ b → (c : Bool) → quotes (a .kind) ≡ c → (d : Bool) → leb 25 (rejectionOf s a) ≡ d → C (seriesAfter s a .blocked)
       go true p c q d r = subst C (sym (enabled-is (eqb-true (a .kind) 12 p))) (one (eqb-true (a .kind) 12 p))
       go false p true q true r = subst C (sym (blocked-is q (leb-true 25 (rejectionOf s a) r))) (two q)
       go false p true q false r =
@@ -94,12 +96,12 @@ module _ (s : Series) (a : Ask) (ok : Accepted s a) (flags : length (s .blocked)
       go false p false q d r = subst C (sym (same-is (eqb-false (a .kind) 12 p) (λ z. clash z q))) three
 
   -- another maker has another flag
-  other-flag : (maker : ℕ) (b : Bool) → 1 ≤ maker → (maker ≡ a .party → ⊥) → makersOnly a ≡ true
+  other-flag : (maker : ℕ) (b : Bool) → 1 ≤ maker → (maker ≡ a .party → ⊥) → makers (a .kind) ≡ true
       → getD (set (s .blocked) (a .party - 1) b) (maker - 1) false ≡ isBlockedIn s maker
   other-flag maker b one apart q =
       getD-set-other (s .blocked) (a .party - 1) (maker - 1) b false (λ z. apart (omega (arith, one, party-flag q .0, z)))
 
-  own-flag : (b : Bool) → makersOnly a ≡ true → getD (set (s .blocked) (a .party - 1) b) (a .party - 1) false ≡ b
+  own-flag : (b : Bool) → makers (a .kind) ≡ true → getD (set (s .blocked) (a .party - 1) b) (a .party - 1) false ≡ b
   own-flag b q = getD-set-same (s .blocked) (a .party - 1) b false (party-flag q .1)
 
   blocking : Blocking s a (seriesAfter s a)
@@ -119,7 +121,7 @@ module _ (s : Series) (a : Ask) (ok : Accepted s a) (flags : length (s .blocked)
           by-ways (λ (f : List Bool). getD f (maker - 1) false ≡ true) (λ k. other-flag maker false one (unnamed k) (enable-maker a k) ∙ h)
           (λ q. go q (eqb maker (a .party)) refl) h
         where
-          go : quotes a ≡ true → (b : Bool) → eqb maker (a .party) ≡ b → getD (set (s .blocked) (a .party - 1) true) (maker - 1) false ≡ true
+          go : quotes (a .kind) ≡ true → (b : Bool) → eqb maker (a .party) ≡ b → getD (set (s .blocked) (a .party - 1) true) (maker - 1) false ≡ true
           go q true e = rw (eqb-true maker (a .party) e) (own-flag true (quote-flag q))
           go q false e = other-flag maker true one (eqb-false maker (a .party) e) (quote-flag q) ∙ h
 
@@ -135,14 +137,14 @@ blocked-until-enabled s message room e read h flags =
     (blocking s (askOf (w .event)) (accepts s (w .event) (w .sound) (w .passes)) flags))
 
 six-first : (s : Series) (a : Ask) → badParty a ≡ false → badPrice (s .terms .m) a ≡ false → badQuantity a ≡ false → notOpen (s .terms .phase) a ≡ false
-    → quotes a ≡ true → isBlockedIn s (a .party) ≡ true → refusalOf s a ≡ 6
+    → quotes (a .kind) ≡ true → isBlockedIn s (a .party) ≡ true → refusalOf s a ≡ 6
 unfolding refusalOf
 six-first s a party price quantity opened q h = rw (party, price, quantity, opened, q, h) refl
 
 -- 6, "kinds 1-4, maker blocked": A BLOCKED MAKER'S QUOTE that passes the tests before, 10, 11 and 1 to 5, IS REFUSED WITH 6, and changes nothing
 pub blocked-refused : (s : Series) (message room : List ℕ) (e : Event) → 31920 ≤ length room → soundSeries s ≡ true → unpackOf messages message ≡ some e
     → badParty (askOf e) ≡ false → badPrice (s .terms .m) (askOf e) ≡ false → badQuantity (askOf e) ≡ false → notOpen (s .terms .phase) (askOf e) ≡ false
-    → quotes (askOf e) ≡ true → isBlockedIn s (askOf e .party) ≡ true → handled s message room ≡ refused 6 s room
+    → quotes (askOf e .kind) ≡ true → isBlockedIn s (askOf e .party) ≡ true → handled s message room ≡ refused 6 s room
 blocked-refused s message room e space sound read party price quantity opened q h =
     let six : refusalOf s (askOf e) ≡ 6 = six-first s (askOf e) party price quantity opened q h in
     handled-refused s message room space sound e read (λ z. omega (arith, six, z)) ∙ ap (λ (n : ℕ). refused n s room) six

@@ -11,7 +11,8 @@ use borrow.Author.Tests.{eq-eqb, ne-eqb, leb-true}
 use Rattle.prices.specs.declared.Prices.{Prices}
 use Rattle.prices.specs.declared.Market.{Market}
 use Rattle.prices.specs.Side.{reaches}
-use Rattle.prices.specs.Aims.{minds}
+use Rattle.kinds.specs.Kinds.{minds, enters}
+use Rattle.kinds.proofs.KindLaws.{no-such, stays-out}
 use Rattle.prices.proofs.FrameLaws.{seen, reached}
 use Rattle.lists.specs.Places.{At}
 use Rattle.lists.specs.Tests.{All}
@@ -46,7 +47,6 @@ use Rattle.arrival.proofs.EnterLaws.{given-high, given-display}
 use Rattle.arrival.proofs.Afterwards.{arrived-all, cut-says, sweep-says}
 use Rattle.series.specs.declared.Series.{Series}
 use Rattle.handler.specs.declared.Ask.{Ask}
-use Rattle.handler.specs.Asked.{enters}
 use Rattle.handler.specs.Accept.{comer, ownPart, termsAfter, settledIf, done}
 use Rattle.series.proofs.TermsLaws.{step-mpv}
 use Rattle.handler.proofs.Passed.{Accepted, facts, terms-legal}
@@ -66,11 +66,11 @@ module _ (s : Series) (a : Ask) where
   -- ---- the message's own part ----
 
   -- who rests after it
-  own-all : (P : Entry → Type 0) → ((q : ℕ) (x : Entry) → P x → P (lessened q x)) → (enters a ≡ true → (left : ℕ) (p : Prices) → P (resting (comer (s .terms .given) a) left p))
+  own-all : (P : Entry → Type 0) → ((q : ℕ) (x : Entry) → P x → P (lessened q x)) → (enters (a .kind) ≡ true → (left : ℕ) (p : Prices) → P (resting (comer (s .terms .given) a) left p))
       → All P (entriesOf (s .book)) → All P (ownPart (s .terms) a (entriesOf (s .book)) .final)
   unfolding ownPart
   own-all P lessens posts h =
-      cond-either Rested (enters a) (arrived t (comer (t .given) a) l) _ (λ q. arrived-all t (comer (t .given) a) l P (λ n x k p. lessens n x p) (posts q) h)
+      cond-either Rested (enters (a .kind)) (arrived t (comer (t .given) a) l) _ (λ q. arrived-all t (comer (t .given) a) l P (λ n x k p. lessens n x p) (posts q) h)
       (λ _. cond-either Rested (eqb (a .kind) 7) (cancelEntry (a .party) (a .entry) l) _ (λ _. cut-all 28 l P (entryOf (a .party) (a .entry) l) h)
       (λ _. cond-either Rested (eqb (a .kind) 8) (cancelQuote (a .party) (a .sell) l) _ (λ _. quote-all 28 (a .party) (a .sell) l P h)
       (λ _. cond-either Rested (eqb (a .kind) 11) (andThen (reported Noted l) (sweep (a .quantity))) (reported Noted l) (λ _. sweep-all (a .quantity) l P h) (λ _. h))))
@@ -79,11 +79,11 @@ module _ (s : Series) (a : Ask) where
       Rested x = All P (x .final)
 
   -- what its reports say: what those of an arrival do, and a note, and what is cancelled
-  own-says : (P : Report → Type 0) → (enters a ≡ true → All P (arrived (s .terms) (comer (s .terms .given) a) (entriesOf (s .book)) .records))
+  own-says : (P : Report → Type 0) → (enters (a .kind) ≡ true → All P (arrived (s .terms) (comer (s .terms .given) a) (entriesOf (s .book)) .records))
       → P Noted → ((why : ℕ) (x : Entry) → P (cancelled why x)) → All P (ownPart (s .terms) a (entriesOf (s .book)) .records)
   unfolding ownPart
   own-says P arrives noted gone =
-      cond-either Says (enters a) (arrived t (comer (t .given) a) l) _ arrives
+      cond-either Says (enters (a .kind)) (arrived t (comer (t .given) a) l) _ arrives
       (λ _. cond-either Says (eqb (a .kind) 7) (cancelEntry (a .party) (a .entry) l) _ (λ _. cut-says l P gone 28 (entryOf (a .party) (a .entry) l))
       (λ _. cond-either Says (eqb (a .kind) 8) (cancelQuote (a .party) (a .sell) l) _ (λ _. cut-says l P gone 28 (quoteIn (a .party) (a .sell) l))
       (λ _. cond-either Says (eqb (a .kind) 11) (andThen (reported Noted l) (sweep (a .quantity))) (reported Noted l)
@@ -93,7 +93,7 @@ module _ (s : Series) (a : Ask) where
       Says x = All P (x .records)
 
   -- who takes in it: the arriving entry alone, and no MMALO
-  own-spares : (n : ℕ) → 1 ≤ n → (enters a ≡ true → Minding n (comer (s .terms .given) a)) → All (NotTaker n) (ownPart (s .terms) a (entriesOf (s .book)) .records)
+  own-spares : (n : ℕ) → 1 ≤ n → (enters (a .kind) ≡ true → Minding n (comer (s .terms .given) a)) → All (NotTaker n) (ownPart (s .terms) a (entriesOf (s .book)) .records)
   own-spares n some m =
       own-says (NotTaker n)
       (λ q. arrived-says t (comer (t .given) a) l (NotTaker n) (record {
@@ -146,7 +146,7 @@ module _ (s : Series) (a : Ask) where
     -- ---- "Letting MMALO take" ----
 
     -- AN MMALO ADDS ONLY: in no report of a message, of its own part or of settling, is it the taker,
-    spares : (n : ℕ) → 1 ≤ n → All (Minding n) (entriesOf (s .book)) → (enters a ≡ true → Minding n (comer (s .terms .given) a))
+    spares : (n : ℕ) → 1 ≤ n → All (Minding n) (entriesOf (s .book)) → (enters (a .kind) ≡ true → Minding n (comer (s .terms .given) a))
         → All (NotTaker n) (done (s .terms) a (entriesOf (s .book)) .records)
     unfolding done still
     spares n some h m =
@@ -157,24 +157,23 @@ module _ (s : Series) (a : Ask) where
 
     pub record AddsOnly : Type 0 where
       -- whether it rests when the message comes
-      pub resting : (i : ℕ) (y : Entry) → At (entriesOf (s .book)) i y → y .kind ≡ 3 → All (NotTaker (y .number)) (done (s .terms) a (entriesOf (s .book)) .records)
+      pub resting : (i : ℕ) (y : Entry) → At (entriesOf (s .book)) i y → minds (y .kind) ≡ true → All (NotTaker (y .number)) (done (s .terms) a (entriesOf (s .book)) .records)
       -- or is what the message brings
-      pub arriving : enters a ≡ true → a .kind ≡ 3 → All (NotTaker (s .terms .given + 1)) (done (s .terms) a (entriesOf (s .book)) .records)
+      pub arriving : enters (a .kind) ≡ true → minds (a .kind) ≡ true → All (NotTaker (s .terms .given + 1)) (done (s .terms) a (entriesOf (s .book)) .records)
 
     pub adds-only : AddsOnly
-    unfolding minds
     adds-only = record {
-      resting = λ i y at k. spares (y .number) (here-facts so i y at .counted) (minding-all so i y at (eq-eqb (y .kind) 3 k))
+      resting = λ i y at k. spares (y .number) (here-facts so i y at .counted) (minding-all so i y at k)
           (λ q z. absurd (omega (arith, here-facts so i y at .given, z)));
-      arriving = λ q k. spares (t .given + 1) (omega arith) (all-map (λ x f z. absurd (omega (arith, f .given, z))) l (so .entries)) (λ _ _. eq-eqb (a .kind) 3 k);
+      arriving = λ q k. spares (t .given + 1) (omega arith) (all-map (λ x f z. absurd (omega (arith, f .given, z))) l (so .entries)) (λ _ _. k);
     }
 
     -- ---- "It never trades above A (a sell never below the away bid)." ----
 
     -- what enters leaves the away prices as they are
-    same-market : enters a ≡ true → marketOf (termsAfter (s .terms) a) ≡ marketOf (s .terms)
+    same-market : enters (a .kind) ≡ true → marketOf (termsAfter (s .terms) a) ≡ marketOf (s .terms)
     unfolding termsAfter
-    same-market q = rw (ne-eqb (a .kind) 9 (λ k. omega (arith, leb-true (a .kind) 6 q))) refl
+    same-market q = rw (no-such enters 9 (a .kind) (stays-out 9 refl) q) refl
 
     -- NO TRADE OF A MESSAGE, of its own part or of settling, IS BEYOND THE AWAY PRICE OF ITS TAKER
     pub trades-within-away : All (TradesWithin (marketOf (termsAfter (s .terms) a))) (done (s .terms) a (entriesOf (s .book)) .records)

@@ -10,7 +10,6 @@ use lib.ListN.{length, getD}
 use borrow.Author.Tests.{leb-false, le-leb, lt-leb, ne-eqb}
 use Rattle.lists.specs.Choose.{Found, nowhere, found}
 use Rattle.lists.specs.Tests.{any}
-use Rattle.lists.proofs.Bools.{clash}
 use Rattle.soundness.specs.declared.Check.{Check}
 use Rattle.soundness.specs.Summary.{seat, isFound, Summary}
 use Rattle.soundness.proofs.SummaryLaws.{any-quote, seat-tells, faced-contra, shown-national}
@@ -20,46 +19,34 @@ use Rattle.prices.specs.Side.{away}
 use Rattle.prices.specs.Protect.{bars24, bars25, bars26, firstBar, protection}
 use Rattle.book.specs.Entries.{quote, quoteOf}
 use Rattle.book.specs.Look.{rankOf, quoteIn, national}
-use Rattle.soundness_theory.specs.Sound.{between}
 use Rattle.terms.specs.declared.Terms.{Terms}
-use Rattle.terms.specs.Terms.{marketOf, guardOf}
+use Rattle.terms.specs.Terms.{lastNumber, marketOf, guardOf}
 use Rattle.arrival.specs.Arrive.{protectionFor, stopsAtOnce, orElse, rejection, bothQuotes, blocks}
 use Rattle.arrival.proofs.ReasonLaws.{at-once-among}
 use Rattle.arrival.specs.declared.Facing.{Facing}
 use Rattle.arrival.specs.Asks.{Arriving, Faces, Enters}
 use Rattle.series.specs.declared.Series.{Series}
 use Rattle.handler.specs.declared.Ask.{Ask}
-use Rattle.handler.specs.Asked.{enters, quotes}
-use Rattle.handler.specs.Refuse.{makersOnly, badParty, isFull, isNowhere, goneAt}
+use Rattle.kinds.specs.Kinds.{enters, quotes, makers, carries}
+use Rattle.kinds.proofs.KindLaws.{quote-cancel-makers, quotes-makers, enable-makers, stays-out, no-such, quotes-enter, enters-carries, enters-high, entry-cancel-carries}
+use Rattle.handler.specs.Refuse.{badParty, isFull, isNowhere, goneAt}
 use Rattle.handler.specs.Accept.{comer, termsAfter}
 use Rattle.handler.specs.Acts.{Acts, facingBy, BlocksFor}
-use Rattle.handler.proofs.Passed.{Accepted, facts, tests, accepted-arriving, within, maker-within}
+use Rattle.handler.proofs.Passed.{Accepted, facts, tests, accepted-arriving, any-party, maker-within}
 
 -- ---- the party ----
 
-pub any-party : (a : Ask) → a .kind ≤ 8 → badParty a ≡ false → (1 ≤ a .party) × (a .party ≤ 99)
-any-party a k h = by (makersOnly a) refl (leb (a .kind) 7) refl h
-  where
-    by : (b : Bool) → makersOnly a ≡ b → (d : Bool) → leb (a .kind) 7 ≡ d → cond b (not (between 1 16 (a .party))) (cond d (not (between 1 99 (a .party))) false) ≡ false
-        → (1 ≤ a .party) × (a .party ≤ 99)
-    by true q d u g = let p = within 1 16 (a .party) g in (p .0, omega (arith, p .1))
-    by false q true u g = within 1 99 (a .party) g
-    by false q false u g = absurd (eight (a .kind) (omega (arith, leb-false (a .kind) 7 u)) q)
-      where
-        eight : (n : ℕ) → n ≡ 8 → (leb n 4 || (eqb n 8 || eqb n 12)) ≡ false → ⊥
-        eight n e z = clash refl (rw e at z)
+pub quote-party : (a : Ask) → quotes (a .kind) ≡ true → badParty a ≡ false → (1 ≤ a .party) × (a .party ≤ 16)
+quote-party a k h = maker-within a (quotes-makers (a .kind) k) h
 
-pub quote-maker : (a : Ask) → a .kind ≤ 4 → makersOnly a ≡ true
-quote-maker a k = rw (le-leb (a .kind) 4 k)
+pub cancel-carries : (a : Ask) → a .kind ≡ 7 → carries (a .kind) ≡ true
+cancel-carries a k = rw k entry-cancel-carries
 
-pub quote-party : (a : Ask) → a .kind ≤ 4 → badParty a ≡ false → (1 ≤ a .party) × (a .party ≤ 16)
-quote-party a k h = maker-within a (quote-maker a k) h
+pub cancel-maker : (a : Ask) → a .kind ≡ 8 → makers (a .kind) ≡ true
+cancel-maker a k = rw k quote-cancel-makers
 
-pub cancel-maker : (a : Ask) → a .kind ≡ 8 → makersOnly a ≡ true
-cancel-maker a k = rw k
-
-pub enable-maker : (a : Ask) → a .kind ≡ 12 → makersOnly a ≡ true
-enable-maker a k = rw k
+pub enable-maker : (a : Ask) → a .kind ≡ 12 → makers (a .kind) ≡ true
+enable-maker a k = rw k enable-makers
 
 -- ---- what is not there ----
 
@@ -71,22 +58,22 @@ unfound : (f : Found Entry) → isNowhere f ≡ not (isFound f)
 unfound nowhere = refl
 unfound (found i e) = refl
 
-pub full-none : (l : List Entry) (a : Ask) → 6 < a .kind → false ≡ isFull l a
-full-none l a h = rw (lt-leb (a .kind) 6 h)
+pub full-none : (l : List Entry) (a : Ask) → enters (a .kind) ≡ false → false ≡ isFull l a
+full-none l a h = rw h
 
 pub full-space : (l : List Entry) (a : Ask) → length l < 64 → false ≡ isFull l a
-full-space l a h = by (enters a)
+full-space l a h = by (enters (a .kind))
   where
-    by : (b : Bool) → false ≡ (b && (leb 64 (length l) && not (quotes a && any (quoteOf (a .party) (a .sell)) l)))
+    by : (b : Bool) → false ≡ (b && (leb 64 (length l) && not (quotes (a .kind) && any (quoteOf (a .party) (a .sell)) l)))
     by true = rw (lt-leb 64 (length l) h)
     by false = refl
 
-pub full-order : (l : List Entry) (a : Ask) → a .kind ≤ 6 → 64 ≤ length l → 4 < a .kind → true ≡ isFull l a
-full-order l a k h j = rw (le-leb (a .kind) 6 k, le-leb 64 (length l) h, lt-leb (a .kind) 4 j)
+pub full-order : (l : List Entry) (a : Ask) → enters (a .kind) ≡ true → 64 ≤ length l → quotes (a .kind) ≡ false → true ≡ isFull l a
+full-order l a k h j = rw (k, le-leb 64 (length l) h, j)
 
-pub full-quote : (l : List Entry) (a : Ask) → 64 ≤ length l → a .kind ≤ 4 → isNowhere (quoteIn (a .party) (a .sell) l) ≡ isFull l a
+pub full-quote : (l : List Entry) (a : Ask) → 64 ≤ length l → quotes (a .kind) ≡ true → isNowhere (quoteIn (a .party) (a .sell) l) ≡ isFull l a
 full-quote l a h j =
-    rw (le-leb (a .kind) 6 (omega arith), le-leb 64 (length l) h, le-leb (a .kind) 4 j, any-quote (a .party) (a .sell) l)
+    rw (quotes-enter (a .kind) j, le-leb 64 (length l) h, j, any-quote (a .party) (a .sell) l)
     (unfound (quoteIn (a .party) (a .sell) l))
 
 -- a maker with an empty seat has no quote
@@ -100,29 +87,33 @@ module _ (t : Terms) (a : Ask) where
   ne : (n : ℕ) → (a .kind ≡ n → ⊥) → eqb (a .kind) n ≡ false
   ne n h = ne-eqb (a .kind) n h
 
-  pub terms-enters : a .kind ≤ 6
+  -- what enters is no kind that sets anything
+  enters-not : (n : ℕ) → (leb 7 n && leb n 12) ≡ true → enters (a .kind) ≡ true → eqb (a .kind) n ≡ false
+  enters-not n h k = no-such enters n (a .kind) (stays-out n h) k
+
+  pub terms-enters : enters (a .kind) ≡ true
       → _≡_ {A = Terms} (record { put = t .put; exempt = t .exempt; m = t .m; k = t .k; strike = t .strike; phase = t .phase; bid = t .bid; offer = t .offer; underlying = t .underlying; given = t .given + 1 }) (termsAfter t a)
   unfolding termsAfter
-  terms-enters k = rw (le-leb (a .kind) 6 k, ne 9 (λ e. omega arith), ne 10 (λ e. omega arith), ne 11 (λ e. omega arith))
+  terms-enters k = rw (k, enters-not 9 refl k, enters-not 10 refl k, enters-not 11 refl k)
 
   pub terms-away : a .kind ≡ 9
       → _≡_ {A = Terms} (record { put = t .put; exempt = t .exempt; m = t .m; k = t .k; strike = t .strike; phase = t .phase; bid = a .price; offer = a .second; underlying = t .underlying; given = t .given }) (termsAfter t a)
   unfolding termsAfter
-  terms-away k = rw k
+  terms-away k = rw (k, stays-out 9 refl)
 
   pub terms-under : a .kind ≡ 10
       → _≡_ {A = Terms} (record { put = t .put; exempt = t .exempt; m = t .m; k = t .k; strike = t .strike; phase = t .phase; bid = t .bid; offer = t .offer; underlying = a .price; given = t .given }) (termsAfter t a)
   unfolding termsAfter
-  terms-under k = rw k
+  terms-under k = rw (k, stays-out 10 refl)
 
   pub terms-phase : a .kind ≡ 11
       → _≡_ {A = Terms} (record { put = t .put; exempt = t .exempt; m = t .m; k = t .k; strike = t .strike; phase = a .quantity; bid = t .bid; offer = t .offer; underlying = t .underlying; given = t .given }) (termsAfter t a)
   unfolding termsAfter
-  terms-phase k = rw k
+  terms-phase k = rw (k, stays-out 11 refl)
 
-  pub terms-same : 6 < a .kind → (a .kind ≡ 9 → ⊥) → (a .kind ≡ 10 → ⊥) → (a .kind ≡ 11 → ⊥) → t ≡ termsAfter t a
+  pub terms-same : enters (a .kind) ≡ false → (a .kind ≡ 9 → ⊥) → (a .kind ≡ 10 → ⊥) → (a .kind ≡ 11 → ⊥) → t ≡ termsAfter t a
   unfolding termsAfter
-  terms-same k e f g = rw (lt-leb (a .kind) 6 k, ne 9 e, ne 10 f, ne 11 g)
+  terms-same k e f g = rw (k, ne 9 e, ne 10 f, ne 11 g)
 
 -- ---- an event that no test refuses ----
 
@@ -130,9 +121,9 @@ pub acts-accepted : {s : Series} {check : Check} {a : Ask} → Acts s check a �
 acts-accepted x = record { sound = x .whole .sound; kind = x .kind; passes = x .passes }
 
 module _ {s : Series} {check : Check} {a : Ask} (x : Acts s check a) where
-  pub acts-comer : a .kind ≤ 6 → (s .terms .given ≤ 1000000) × ((a .party ≤ 99) × (a .kind ≤ 6))
+  pub acts-comer : enters (a .kind) ≡ true → (s .terms .given ≤ lastNumber) × ((a .party ≤ 99) × (a .kind ≤ 15))
   acts-comer k =
-      (facts s a (acts-accepted x) .sound .most, (any-party a (omega arith) (tests s a (acts-accepted x) .party) .1, k))
+      (facts s a (acts-accepted x) .sound .most, (any-party a (enters-carries (a .kind) k) (tests s a (acts-accepted x) .party) .1, enters-high (a .kind) k))
 
   -- it faces what the test of the series has seen
   acts-faces : (e : Entry) → Faces (s .terms) e (entriesOf (s .book)) (facingBy check (s .terms) (e .sell))
@@ -141,11 +132,11 @@ module _ {s : Series} {check : Check} {a : Ask} (x : Acts s check a) where
     national = shown-national (x .whole .seen) (e .sell) (away (marketOf (s .terms)) (e .sell));
   }
 
-  pub acts-enters : a .kind ≤ 6 → (e : Entry) → e ≡ comer (s .terms .given) a → (f : Facing) → f ≡ facingBy check (s .terms) (e .sell)
+  pub acts-enters : enters (a .kind) ≡ true → (e : Entry) → e ≡ comer (s .terms .given) a → (f : Facing) → f ≡ facingBy check (s .terms) (e .sell)
       → Enters (s .terms) e f (s .book)
   acts-enters k e q f p = record {
     well = x .whole .well;
-    arriving = subst (λ (y : Entry). Arriving (s .terms) y (entriesOf (s .book))) (sym q) (accepted-arriving s a (acts-accepted x) (le-leb (a .kind) 6 k));
+    arriving = subst (λ (y : Entry). Arriving (s .terms) y (entriesOf (s .book))) (sym q) (accepted-arriving s a (acts-accepted x) k);
     faces = subst (Faces (s .terms) e (entriesOf (s .book))) (sym p) (acts-faces e);
   }
 
@@ -166,11 +157,11 @@ blocks-by t e l q =
     by false false true why h = refl
     by false false false why h = sym (rw (ne-eqb why 25 (λ z. omega (arith, z)), ne-eqb why 26 (λ z. omega (arith, z))) refl)
 
-pub blocking-quote : (t : Terms) (a : Ask) (b25 b26 : Bool) → a .kind ≤ 4 → b25 ≡ bars25 (guardOf t) (a .sell) (a .price)
-    → b26 ≡ bars26 (guardOf t) (a .sell) (a .price) → (l : List Entry) → (b25 || b26) ≡ (quotes a && blocks t (comer (t .given) a) l)
+pub blocking-quote : (t : Terms) (a : Ask) (b25 b26 : Bool) → quotes (a .kind) ≡ true → b25 ≡ bars25 (guardOf t) (a .sell) (a .price)
+    → b26 ≡ bars26 (guardOf t) (a .sell) (a .price) → (l : List Entry) → (b25 || b26) ≡ (quotes (a .kind) && blocks t (comer (t .given) a) l)
 blocking-quote t a b25 b26 k p q l =
-    ap₂ _||_ p q ∙ blocks-by t (comer (t .given) a) l (le-leb (a .kind) 4 k)
-    ∙ sym (ap (λ (b : Bool). b && blocks t (comer (t .given) a) l) (le-leb (a .kind) 4 k))
+    ap₂ _||_ p q ∙ blocks-by t (comer (t .given) a) l k
+    ∙ sym (ap (λ (b : Bool). b && blocks t (comer (t .given) a) l) k)
 
-pub never-blocks : (t : Terms) (a : Ask) → 4 < a .kind → BlocksFor false t a
-never-blocks t a k l = sym (ap (λ (b : Bool). b && blocks t (comer (t .given) a) l) (lt-leb (a .kind) 4 k))
+pub never-blocks : (t : Terms) (a : Ask) → quotes (a .kind) ≡ false → BlocksFor false t a
+never-blocks t a k l = sym (ap (λ (b : Bool). b && blocks t (comer (t .given) a) l) k)

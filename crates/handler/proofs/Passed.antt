@@ -34,8 +34,10 @@ use Rattle.series.specs.SoundSeries.{NoneOrLegal, LegalTerms}
 use Rattle.series.proofs.TermsLaws.{given-price}
 use Rattle.series.proofs.SeriesFacts.{SeriesFacts, series-facts}
 use Rattle.handler.specs.declared.Ask.{Ask}
-use Rattle.handler.specs.Asked.{askOf, enters, quotes}
-use Rattle.handler.specs.Refuse.{makersOnly, badParty, badPrice, badQuantity, notOpen, isBlocked, isFull, isSpent, isMissing, refusalOf}
+use Rattle.handler.specs.Asked.{askOf}
+use Rattle.kinds.specs.Kinds.{enters, quotes, makers, carries}
+use Rattle.kinds.proofs.KindLaws.{enters-carries, quotes-makers, stays-out}
+use Rattle.handler.specs.Refuse.{badParty, badPrice, badQuantity, notOpen, isBlocked, isFull, isSpent, isMissing, refusalOf}
 use Rattle.handler.specs.Accept.{comer, termsAfter}
 
 -- ---- the tests that were passed ----
@@ -111,11 +113,11 @@ cut-one why party side l h = at (quoteIn party side l) (quote-tells l party side
     at (found i e) c k = omega arith
 
 -- "64 entries rest, not counting the quote this one replaces"
-space-left : (given : ℕ) (l : List Entry) (a : Ask) → length l ≤ 64 → enters a ≡ true → isFull l a ≡ false → length (replaced (comer given a) l .final) < 64
+space-left : (given : ℕ) (l : List Entry) (a : Ask) → length l ≤ 64 → enters (a .kind) ≡ true → isFull l a ≡ false → length (replaced (comer given a) l .final) < 64
 unfolding still
-space-left given l a size q h = by (leb 64 (length l)) refl (quotes a) refl (any (quoteOf (a .party) (a .sell)) l) refl (rw q at h)
+space-left given l a size q h = by (leb 64 (length l)) refl (quotes (a .kind)) refl (any (quoteOf (a .party) (a .sell)) l) refl (rw q at h)
   where
-    by : (full : Bool) → leb 64 (length l) ≡ full → (b : Bool) → quotes a ≡ b → (c : Bool) → any (quoteOf (a .party) (a .sell)) l ≡ c → (full && not (b && c)) ≡ false
+    by : (full : Bool) → leb 64 (length l) ≡ full → (b : Bool) → quotes (a .kind) ≡ b → (c : Bool) → any (quoteOf (a .party) (a .sell)) l ≡ c → (full && not (b && c)) ≡ false
         → length ((cond b (cutQuote 27 (a .party) (a .sell) l) (still l)) .final) < 64
     by full u true v true w g = omega (arith, cut-one 27 (a .party) (a .sell) l w)
     by true u true v false w g = clash refl g
@@ -123,15 +125,15 @@ space-left given l a size q h = by (leb 64 (length l)) refl (quotes a) refl (any
     by false u true v false w g = omega (arith, leb-false 64 (length l) u, quote-length 27 (a .party) (a .sell) l)
     by false u false v c w g = omega (arith, leb-false 64 (length l) u)
 
-party-within : (a : Ask) → leb (a .kind) 7 ≡ true → badParty a ≡ false → (1 ≤ a .party) × (a .party ≤ 99)
-party-within a q h = by (makersOnly a) (rw q at h)
+pub any-party : (a : Ask) → carries (a .kind) ≡ true → badParty a ≡ false → (1 ≤ a .party) × (a .party ≤ 99)
+any-party a q h = by (makers (a .kind)) (rw q at h)
   where
     by : (b : Bool) → cond b (not (between 1 16 (a .party))) (not (between 1 99 (a .party))) ≡ false → (1 ≤ a .party) × (a .party ≤ 99)
     by true g = let k = within 1 16 (a .party) g in (k .0, omega (arith, k .1))
     by false g = within 1 99 (a .party) g
 
 -- "kinds 1-4, 8, 12: outside 1-16"
-pub maker-within : (a : Ask) → makersOnly a ≡ true → badParty a ≡ false → (1 ≤ a .party) × (a .party ≤ 16)
+pub maker-within : (a : Ask) → makers (a .kind) ≡ true → badParty a ≡ false → (1 ≤ a .party) × (a .party ≤ 16)
 maker-within a q h = within 1 16 (a .party) (rw q at h)
 
 -- ---- an accepted message ----
@@ -144,16 +146,16 @@ module _ (s : Series) (a : Ask) (ok : Accepted s a) where
   tests = passed s a (ok .passes)
 
   -- quotes and orders enter an open series only
-  pub enters-open : enters a ≡ true → s .terms .phase ≡ 1
+  pub enters-open : enters (a .kind) ≡ true → s .terms .phase ≡ 1
   enters-open q = eqb-true (s .terms .phase) 1 (not-false (eqb (s .terms .phase) 1) (rw q at (tests .opened)))
 
-  pub enters-fresh : enters a ≡ true → s .terms .given < 1000000
+  pub enters-fresh : enters (a .kind) ≡ true → s .terms .given < 1000000
   enters-fresh q = leb-false 1000000 (s .terms .given) (rw q at (tests .number))
 
   -- THE TESTS THAT WERE PASSED ARE WHAT ARRIVAL ASKS
-  pub accepted-arriving : enters a ≡ true → Arriving (s .terms) (comer (s .terms .given) a) (entriesOf (s .book))
+  pub accepted-arriving : enters (a .kind) ≡ true → Arriving (s .terms) (comer (s .terms .given) a) (entriesOf (s .book))
   accepted-arriving q =
-      let party = party-within a (le-leb (a .kind) 7 (omega (arith, leb-true (a .kind) 6 q))) (tests .party) in
+      let party = any-party a (enters-carries (a .kind) q) (tests .party) in
       let quantity = within 1 99999 (a .quantity) (rw q at (tests .quantity)) in
       record {
         market = facts .market;
@@ -161,11 +163,10 @@ module _ (s : Series) (a : Ask) (ok : Accepted s a) where
         steps = facts .sound .terms .steps;
         number = refl;
         fresh = enters-fresh q;
-        kind-low = ok .kind;
-        kind-high = leb-true (a .kind) 6 q;
+        entering = q;
         party-low = party .0;
         party-high = party .1;
-        maker = λ r. within 1 16 (a .party) (rw r at (tests .party)) .1;
+        maker = λ r. maker-within a (quotes-makers (a .kind) r) (tests .party) .1;
         limit = not-false (legal (s .terms .m) (a .price)) (rw q at (tests .price));
         some = quantity .0;
         most = quantity .1;
@@ -180,18 +181,18 @@ module _ (s : Series) (a : Ask) (ok : Accepted s a) where
     steps = facts .sound .terms .steps;
     strike = facts .sound .terms .strike;
     phase = cond-either (λ (n : ℕ). n ≤ 2) (eqb (a .kind) 11) (a .quantity) (s .terms .phase)
-        (λ q. leb-true (a .quantity) 2 (not-false (leb (a .quantity) 2) (rw (eqb-true (a .kind) 11 q) at (tests .quantity)))) (λ q. facts .sound .terms .phase);
+        (λ q. leb-true (a .quantity) 2 (not-false (leb (a .quantity) 2) (rw (eqb-true (a .kind) 11 q, stays-out 11 refl) at (tests .quantity)))) (λ q. facts .sound .terms .phase);
     bid = cond-either (λ (n : ℕ). NoneOrLegal (s .terms .m) n) (eqb (a .kind) 9) (a .price) (s .terms .bid)
         (λ q. given-price (s .terms .m) (a .price) (and-left (noneOrLegal (s .terms .m) (a .price)) (noneOrLegal (s .terms .m) (a .second)) (aways q))) (λ q. facts .sound .terms .bid);
     offer = cond-either (λ (n : ℕ). NoneOrLegal (s .terms .m) n) (eqb (a .kind) 9) (a .second) (s .terms .offer)
         (λ q. given-price (s .terms .m) (a .second) (and-right (noneOrLegal (s .terms .m) (a .price)) (noneOrLegal (s .terms .m) (a .second)) (aways q))) (λ q. facts .sound .terms .offer);
     underlying = cond-either (λ (n : ℕ). n ≤ 100000) (eqb (a .kind) 10) (a .price) (s .terms .underlying)
-        (λ q. leb-true (a .price) 100000 (not-false (leb (a .price) 100000) (rw (eqb-true (a .kind) 10 q) at (tests .price)))) (λ q. facts .sound .terms .underlying);
+        (λ q. leb-true (a .price) 100000 (not-false (leb (a .price) 100000) (rw (eqb-true (a .kind) 10 q, stays-out 10 refl) at (tests .price)))) (λ q. facts .sound .terms .underlying);
   }
     where
       aways : eqb (a .kind) 9 ≡ true → (noneOrLegal (s .terms .m) (a .price) && noneOrLegal (s .terms .m) (a .second)) ≡ true
-      aways q = not-false (noneOrLegal (s .terms .m) (a .price) && noneOrLegal (s .terms .m) (a .second)) (rw (eqb-true (a .kind) 9 q) at (tests .price))
+      aways q = not-false (noneOrLegal (s .terms .m) (a .price) && noneOrLegal (s .terms .m) (a .second)) (rw (eqb-true (a .kind) 9 q, stays-out 9 refl) at (tests .price))
 
   pub numbers-few : termsAfter (s .terms) a .given ≤ 1000000
   unfolding termsAfter
-  numbers-few = cond-either (λ (n : ℕ). n ≤ 1000000) (enters a) (s .terms .given + 1) (s .terms .given) (λ q. omega (arith, enters-fresh q)) (λ q. facts .sound .most)
+  numbers-few = cond-either (λ (n : ℕ). n ≤ 1000000) (enters (a .kind)) (s .terms .given + 1) (s .terms .given) (λ q. omega (arith, enters-fresh q)) (λ q. facts .sound .most)

@@ -2,7 +2,7 @@
 -- the handler's answer.
 -- Assumes nothing.
 use Prim.Native.Nat.{ℕ, _≤_}
-use mathlib.Core.Path.{_≡_, sym, subst}
+use mathlib.Core.Path.{_≡_, refl, sym, subst}
 use mathlib.Core.Bool.{Bool, true, false}
 use mathlib.Core.List.{List}
 use native.Mathlib.Omega.{arith}
@@ -23,7 +23,8 @@ use Rattle.arrival.specs.Arrive.{reported, arrived}
 use Rattle.telling.proofs.StageLaws.{staged-list, staged-then, staged-room}
 use Rattle.series.specs.declared.Series.{Series}
 use Rattle.handler.specs.declared.Ask.{Ask}
-use Rattle.handler.specs.Asked.{enters}
+use Rattle.kinds.specs.Kinds.{enters}
+use Rattle.kinds.proofs.KindLaws.{stays-out}
 use Rattle.handler.specs.Accept.{comer, ownPart, termsAfter, blockedAfter, settledIf, done}
 use Rattle.handler.specs.Handle.{Handled, accepted}
 use Rattle.handler.proofs.Passed.{Accepted}
@@ -32,23 +33,23 @@ use Rattle.handler.proofs.Accepted.{own-sound, accepted-room}
 -- ---- which stage the message's own part is ----
 
 module _ (t : Terms) (a : Ask) (l : List Entry) where
-  pub own-enters : enters a ≡ true → ownPart t a l ≡ arrived t (comer (t .given) a) l
+  pub own-enters : enters (a .kind) ≡ true → ownPart t a l ≡ arrived t (comer (t .given) a) l
   unfolding ownPart
   own-enters q = rw q
 
   pub own-entry : a .kind ≡ 7 → ownPart t a l ≡ cancelEntry (a .party) (a .entry) l
   unfolding ownPart
-  own-entry q = rw q
+  own-entry q = rw (q, stays-out 7 refl)
 
   pub own-quote : a .kind ≡ 8 → ownPart t a l ≡ cancelQuote (a .party) (a .sell) l
   unfolding ownPart
-  own-quote q = rw q
+  own-quote q = rw (q, stays-out 8 refl)
 
   pub own-phase : a .kind ≡ 11 → ownPart t a l ≡ andThen (reported Noted l) (sweep (a .quantity))
   unfolding ownPart
-  own-phase q = rw q
+  own-phase q = rw (q, stays-out 11 refl)
 
-  pub own-noted : enters a ≡ false → eqb (a .kind) 7 ≡ false → eqb (a .kind) 8 ≡ false → eqb (a .kind) 11 ≡ false → ownPart t a l ≡ reported Noted l
+  pub own-noted : enters (a .kind) ≡ false → eqb (a .kind) 7 ≡ false → eqb (a .kind) 8 ≡ false → eqb (a .kind) 11 ≡ false → ownPart t a l ≡ reported Noted l
   unfolding ownPart
   own-noted q q₇ q₈ q₁₁ = rw (q, q₇, q₈, q₁₁)
 

@@ -18,7 +18,7 @@ use Rattle.arrival.specs.Cancel.{cancelEntry, cancelQuote, sweep}
 use Rattle.arrival.specs.Arrive.{reported, arrived, blocks}
 use Rattle.series.specs.declared.Series.{Series}
 use Rattle.handler.specs.declared.Ask.{Ask}
-use Rattle.handler.specs.Asked.{enters, quotes}
+use Rattle.kinds.specs.Kinds.{enters, quotes, cancelsEntry, cancelsQuote, setsAway, setsUnderlying, setsPhase, enables}
 
 -- the quote or order that arrives: "Entry numbers run 1 to 1,000,000, one for each quote or order not refused, rejected ones included"
 abbrev pub comer : ℕ → Ask → Entry
@@ -37,10 +37,10 @@ comer given a = record {
 -- settling follows them too."
 unfoldable pub ownPart : Terms → Ask → List Entry → Ran (List Entry) Report
 ownPart t a l =
-    cond (enters a) (arrived t (comer (t .given) a) l)
-    (cond (eqb (a .kind) 7) (cancelEntry (a .party) (a .entry) l)
-    (cond (eqb (a .kind) 8) (cancelQuote (a .party) (a .sell) l)
-    (cond (eqb (a .kind) 11) (andThen (reported Noted l) (sweep (a .quantity))) (reported Noted l))))
+    cond (enters (a .kind)) (arrived t (comer (t .given) a) l)
+    (cond (cancelsEntry (a .kind)) (cancelEntry (a .party) (a .entry) l)
+    (cond (cancelsQuote (a .kind)) (cancelQuote (a .party) (a .sell) l)
+    (cond (setsPhase (a .kind)) (andThen (reported Noted l) (sweep (a .quantity))) (reported Noted l))))
 
 -- the series' numbers afterwards
 unfoldable pub termsAfter : Terms → Ask → Terms
@@ -50,18 +50,18 @@ termsAfter t a = record {
   m = t .m;
   k = t .k;
   strike = t .strike;
-  phase = cond (eqb (a .kind) 11) (a .quantity) (t .phase);
-  bid = cond (eqb (a .kind) 9) (a .price) (t .bid);
-  offer = cond (eqb (a .kind) 9) (a .second) (t .offer);
-  underlying = cond (eqb (a .kind) 10) (a .price) (t .underlying);
-  given = cond (enters a) (t .given + 1) (t .given);
+  phase = cond (setsPhase (a .kind)) (a .quantity) (t .phase);
+  bid = cond (setsAway (a .kind)) (a .price) (t .bid);
+  offer = cond (setsAway (a .kind)) (a .second) (t .offer);
+  underlying = cond (setsUnderlying (a .kind)) (a .price) (t .underlying);
+  given = cond (enters (a .kind)) (t .given + 1) (t .given);
 }
 
 -- "25 and 26 .. block that maker until kind 12"
 unfoldable pub blockedAfter : Terms → Ask → List Entry → List Bool → List Bool
 blockedAfter t a l blocked =
-    cond (eqb (a .kind) 12) (set blocked (a .party - 1) false)
-    (cond (quotes a && blocks t (comer (t .given) a) l) (set blocked (a .party - 1) true) blocked)
+    cond (enables (a .kind)) (set blocked (a .party - 1) false)
+    (cond (quotes (a .kind) && blocks t (comer (t .given) a) l) (set blocked (a .party - 1) true) blocked)
 
 -- "After every accepted message in an open series."
 abbrev pub settledIf : Terms → List Entry → Ran (List Entry) Report

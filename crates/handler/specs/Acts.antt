@@ -22,7 +22,7 @@ use Rattle.arrival.specs.Arrive.{blocks}
 use Rattle.series.specs.declared.Series.{Series}
 use Rattle.series.specs.Series.{soundSeries}
 use Rattle.handler.specs.declared.Ask.{Ask}
-use Rattle.handler.specs.Asked.{quotes}
+use Rattle.kinds.specs.Kinds.{quotes, enables}
 use Rattle.handler.specs.Refuse.{badParty, refusalOf}
 use Rattle.handler.specs.Accept.{comer, settledIf}
 use Rattle.handler.specs.Handle.{beforeReading}
@@ -57,14 +57,14 @@ pub record SettlesIf (t : Terms) (b : Book) (room : List ℕ) (n : ℕ) : Type 0
 
 -- whether a message is a quote that is rejected for a reason that blocks its maker, whatever rests
 abbrev pub BlocksFor : Bool → Terms → Ask → Type 0
-BlocksFor blocking t a = (l : List Entry) → blocking ≡ (quotes a && blocks t (comer (t .given) a) l)
+BlocksFor blocking t a = (l : List Entry) → blocking ≡ (quotes (a .kind) && blocks t (comer (t .given) a) l)
 
 -- the block list afterwards, where it is known whether the maker is blocked by it
 abbrev pub blockedBy : Bool → Ask → List Bool → List Bool
 blockedBy blocking a blocked =
-    cond (eqb (a .kind) 12) (set blocked (a .party - 1) false) (cond blocking (set blocked (a .party - 1) true) blocked)
+    cond (enables (a .kind)) (set blocked (a .party - 1) false) (cond blocking (set blocked (a .party - 1) true) blocked)
 
 pub record Marks (blocking : Bool) (a : Ask) (s : Series) : Type 0 where
-  pub maker : blocking ≡ true → quotes a ≡ true
+  pub maker : blocking ≡ true → quotes (a .kind) ≡ true
   pub party : badParty a ≡ false
   pub blocks : length (s .blocked) ≡ 16

@@ -2,8 +2,7 @@
 -- No rule of document 01 stands here but its numbers of kinds, only words for the refusals and for contracts.
 -- Assumes nothing.
 use Prim.Native.Nat.{ℕ}
-use mathlib.Core.Bool.{Bool, false}
-use lib.Dec.{leb}
+use mathlib.Core.Bool.{false}
 use Rattle.packing.specs.declared.message.Entering.{Entering}
 use Rattle.packing.specs.declared.message.Event.{Event}
 use Rattle.packing.specs.declared.message.Event.the-variants.{Plain, Mmlo, Mmalo, Mmrp, Displayed, Dark, CancelEntry, CancelQuote, Away, Underlying, Phase, Enable}
@@ -27,10 +26,3 @@ askOf (Away bid offer) = record { kind = 9; party = 0; sell = false; price = bid
 askOf (Underlying price) = record { kind = 10; party = 0; sell = false; price = price; quantity = 0; second = 0; entry = 0 }
 askOf (Phase phase) = record { kind = 11; party = 0; sell = false; price = 0; quantity = phase; second = 0; entry = 0 }
 askOf (Enable party) = record { kind = 12; party = party; sell = false; price = 0; quantity = 0; second = 0; entry = 0 }
-
--- kinds 1 to 6 enter; of these 1 to 4 are quotes
-abbrev pub enters : Ask → Bool
-enters a = leb (a .kind) 6
-
-abbrev pub quotes : Ask → Bool
-quotes a = leb (a .kind) 4

@@ -15,44 +15,42 @@ use Rattle.book.specs.Entries.{quoteOf}
 use Rattle.book.specs.Shape.{entriesOf}
 use Rattle.book.specs.Look.{entryOf, quoteIn}
 use Rattle.soundness_theory.specs.Sound.{between}
+use Rattle.terms.specs.Terms.{topUnderlying, lastNumber}
 use Rattle.series.specs.declared.Series.{Series}
 use Rattle.handler.specs.declared.Ask.{Ask}
-use Rattle.handler.specs.Asked.{enters, quotes}
+use Rattle.kinds.specs.Kinds.{enters, quotes, carries, makers, cancelsEntry, cancelsQuote, setsAway, setsUnderlying, setsPhase}
 
--- 2: "party outside 1-99; kinds 1-4, 8, 12: outside 1-16"; kinds 9 to 11 carry none
-abbrev pub makersOnly : Ask → Bool
-makersOnly a = quotes a || (eqb (a .kind) 8 || eqb (a .kind) 12)
-
+-- 2: "party outside 1-99; kinds 1-4, 8, 12: outside 1-16"
 abbrev pub badParty : Ask → Bool
-badParty a = cond (makersOnly a) (not (between 1 16 (a .party))) (cond (leb (a .kind) 7) (not (between 1 99 (a .party))) false)
+badParty a = cond (makers (a .kind)) (not (between 1 16 (a .party))) (cond (carries (a .kind)) (not (between 1 99 (a .party))) false)
 
 -- 3: "a price out of range or, but for the underlying, off the M grid (away: if not 0)". Each away price is tested by itself: "Crossed
 -- or locked away prices are accepted."
 abbrev pub badPrice : ℕ → Ask → Bool
 badPrice m a =
-    cond (enters a) (not (legal m (a .price)))
-    (cond (eqb (a .kind) 9) (not (noneOrLegal m (a .price) && noneOrLegal m (a .second)))
-    (cond (eqb (a .kind) 10) (not (leb (a .price) 100000)) false))
+    cond (enters (a .kind)) (not (legal m (a .price)))
+    (cond (setsAway (a .kind)) (not (noneOrLegal m (a .price) && noneOrLegal m (a .second)))
+    (cond (setsUnderlying (a .kind)) (not (leb (a .price) topUnderlying)) false))
 
 -- 4: "quantity out of range, or phase above 2"
 abbrev pub badQuantity : Ask → Bool
-badQuantity a = cond (enters a) (not (between 1 99999 (a .quantity))) (cond (eqb (a .kind) 11) (not (leb (a .quantity) 2)) false)
+badQuantity a = cond (enters (a .kind)) (not (between 1 99999 (a .quantity))) (cond (setsPhase (a .kind)) (not (leb (a .quantity) 2)) false)
 
 -- 5: "kinds 1-6, series not open"
 abbrev pub notOpen : ℕ → Ask → Bool
-notOpen phase a = enters a && not (eqb phase 1)
+notOpen phase a = enters (a .kind) && not (eqb phase 1)
 
 -- 6: "kinds 1-4, maker blocked"
 abbrev pub isBlocked : List Bool → Ask → Bool
-isBlocked blocked a = quotes a && getD blocked (a .party - 1) false
+isBlocked blocked a = quotes (a .kind) && getD blocked (a .party - 1) false
 
 -- 7: "kinds 1-6, 64 entries rest, not counting the quote this one replaces"
 abbrev pub isFull : List Entry → Ask → Bool
-isFull l a = enters a && (leb 64 (length l) && not (quotes a && any (quoteOf (a .party) (a .sell)) l))
+isFull l a = enters (a .kind) && (leb 64 (length l) && not (quotes (a .kind) && any (quoteOf (a .party) (a .sell)) l))
 
 -- 9: "kinds 1-6, entry 1,000,000 has been given"
 abbrev pub isSpent : ℕ → Ask → Bool
-isSpent given a = enters a && leb 1000000 given
+isSpent given a = enters (a .kind) && leb lastNumber given
 
 -- 8: "kinds 7, 8: no such entry of that party, or no such quote"
 abbrev pub isNowhere : Found Entry → Bool
@@ -66,7 +64,7 @@ goneAt (At i) = false
 
 abbrev pub isMissing : List Entry → Ask → Bool
 isMissing l a =
-    cond (eqb (a .kind) 7) (isNowhere (entryOf (a .party) (a .entry) l)) (cond (eqb (a .kind) 8) (isNowhere (quoteIn (a .party) (a .sell) l)) false)
+    cond (cancelsEntry (a .kind)) (isNowhere (entryOf (a .party) (a .entry) l)) (cond (cancelsQuote (a .kind)) (isNowhere (quoteIn (a .party) (a .sell) l)) false)
 
 -- the number of the first test of a list that holds, 0 where none does
 abbrev pub firstHolding : List (ℕ × Bool) → ℕ

@@ -6,6 +6,7 @@ use packing::message::Entering;
 use packing::message::Event;
 ghost use mathlib.Core.Path.{_≡_};
 ghost use Prim.Native.Nat.{_≤_};
+ghost use Rattle.terms.specs.Terms.{lastNumber};
 ghost use Rattle.handler.specs.Asked.{entering, askOf};
 ghost use Rattle.handler.specs.Accept.{comer};
 
@@ -69,9 +70,9 @@ pub fn ask_of(event: Event) -> Ask
 
 // The quote or order that arrives, with the next entry number.
 pub fn comer_of(given: u32, ask: Ask) -> Entry
-    requires { ⌜ given ≤ 1000000 ⌝ }
+    requires { ⌜ given ≤ lastNumber ⌝ }
     requires { ⌜ ask .party ≤ 99 ⌝ }
-    requires { ⌜ ask .kind ≤ 6 ⌝ }
+    requires { ⌜ ask .kind ≤ 15 ⌝ }
     ensures { λ r. ⌜ r ≡ comer given ask ⌝ }
 {
     let number = given + 1;

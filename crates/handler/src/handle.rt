@@ -11,6 +11,14 @@ use arrival::cancel::cut_rank;
 use arrival::sweep::sweep_all;
 use book::Book;
 use book::find::find_entry;
+use kinds::AWAY;
+use kinds::CANCEL_ENTRY;
+use kinds::CANCEL_QUOTE;
+use kinds::ENABLE;
+use kinds::PHASE;
+use kinds::UNDERLYING;
+use kinds::is_entering;
+use kinds::is_quoting;
 use packing::message::Event;
 use packing::message::Unpacked;
 use packing::message::unpack;
@@ -37,6 +45,7 @@ ghost use mathlib.Core.Path.{_≡_};
 ghost use lib.ListN.{length};
 ghost use Rattle.lists.specs.Run.{andThen};
 ghost use Rattle.packing.specs.declared.report.Report.the-variants.{Noted};
+ghost use Rattle.terms.specs.Terms.{lastNumber};
 ghost use Rattle.book.specs.Shape.{entriesOf};
 ghost use Rattle.settling_theory.specs.Settle.{settled};
 ghost use Rattle.settling.specs.Turns.{Settleable};
@@ -62,24 +71,24 @@ fn refused(series: Series, why: u32) -> Answer
 
 // The series' numbers afterwards.
 fn terms_after(t: Terms, a: Ask) -> Terms
-    requires { ⌜ t .given ≤ 1000000 ⌝ }
+    requires { ⌜ t .given ≤ lastNumber ⌝ }
     ensures { λ r. ⌜ r ≡ termsAfter t a ⌝ }
 {
     let mut out = t;
-    if a.kind <= 6 {
+    if is_entering(a.kind) {
         out.given = t.given + 1;
         return out;
     }
-    if a.kind == 9 {
+    if a.kind == AWAY {
         out.bid = a.price;
         out.offer = a.second;
         return out;
     }
-    if a.kind == 10 {
+    if a.kind == UNDERLYING {
         out.underlying = a.price;
         return out;
     }
-    if a.kind == 11 {
+    if a.kind == PHASE {
         out.phase = a.quantity;
         return out;
     }
@@ -124,20 +133,20 @@ fn act(s: Series, check: Check, a: Ask, room: &mut [u8], n: &mut usize) -> Book
 {
     let b = s.book;
     let t = s.terms;
-    if a.kind <= 6 {
+    if is_entering(a.kind) {
         let e = comer_of(t.given, a);
         let f = facing_of(check, t, e.sell);
         return arrive(b, t, e, f, room, n);
     }
-    if a.kind == 7 {
+    if a.kind == CANCEL_ENTRY {
         let party = a.party as u8;
         return cancel_entry(b, party, a.entry, room, n);
     }
-    if a.kind == 8 {
+    if a.kind == CANCEL_QUOTE {
         let party = a.party as u8;
         return cut_quote(b, party, a.sell, 28, room, n);
     }
-    if a.kind == 11 {
+    if a.kind == PHASE {
         return note_phase(b, a.quantity, room, n);
     }
     put(room, n, Report::Noted);
@@ -170,7 +179,7 @@ fn settle_if(t: Terms, b: Book, room: &mut [u8], n: &mut usize) -> Book
 fn is_blocking(t: Terms, a: Ask) -> bool
     ensures { λ r. ⌜ BlocksFor r t a ⌝ }
 {
-    if 4 < a.kind {
+    if !is_quoting(a.kind) {
         return false;
     }
     let guard = guard_of(t);
@@ -185,7 +194,7 @@ fn put_together(s: Series, a: Ask, terms: Terms, blocking: bool, book: Book) -> 
     let mut out = s;
     out.terms = terms;
     out.book = book;
-    if a.kind == 12 {
+    if a.kind == ENABLE {
         let i = (a.party - 1) as usize;
         out.blocked[i] = false;
         return out;

@@ -3,34 +3,39 @@ use crate::Ask;
 use book::Book;
 use book::Rank;
 use book::find::find_entry;
+use kinds::AWAY;
+use kinds::CANCEL_ENTRY;
+use kinds::CANCEL_QUOTE;
+use kinds::PHASE;
+use kinds::UNDERLYING;
+use kinds::is_carrying;
+use kinds::is_entering;
+use kinds::is_makers;
+use kinds::is_quoting;
 use prices::step::is_legal;
 use prices::step::is_none_or_legal;
 use series::Series;
 use series::sound::is_between;
 use soundness::Check;
 use soundness::figures::has_quote;
+use terms::LAST_NUMBER;
+use terms::TOP_UNDERLYING;
 ghost use mathlib.Core.Path.{_≡_};
 ghost use mathlib.Core.Bool.{true, false};
 ghost use lib.ListN.{length};
 ghost use Rattle.prices.specs.Step.{mpv};
 ghost use Rattle.book.specs.Shape.{entriesOf, WellFormed};
 ghost use Rattle.soundness.specs.Summary.{Summary};
-ghost use Rattle.handler.specs.Refuse.{makersOnly, badParty, badPrice, badQuantity, notOpen, isBlocked, isFull, isSpent, isMissing, goneAt, refusalOf};
-
-fn is_makers_only(a: Ask) -> bool
-    ensures { λ r. ⌜ r ≡ makersOnly a ⌝ }
-{
-    (a.kind <= 4) | ((a.kind == 8) | (a.kind == 12))
-}
+ghost use Rattle.handler.specs.Refuse.{badParty, badPrice, badQuantity, notOpen, isBlocked, isFull, isSpent, isMissing, goneAt, refusalOf};
 
 // 2: a party out of range.
 pub fn is_bad_party(a: Ask) -> bool
     ensures { λ r. ⌜ r ≡ badParty a ⌝ }
 {
-    if is_makers_only(a) {
+    if is_makers(a.kind) {
         return !is_between(1, 16, a.party);
     }
-    if a.kind <= 7 {
+    if is_carrying(a.kind) {
         return !is_between(1, 99, a.party);
     }
     false
@@ -41,14 +46,14 @@ pub fn is_bad_price(m: u32, a: Ask) -> bool
     requires { ⌜ mpv m ≡ true ⌝ }
     ensures { λ r. ⌜ r ≡ badPrice m a ⌝ }
 {
-    if a.kind <= 6 {
+    if is_entering(a.kind) {
         return !is_legal(m, a.price);
     }
-    if a.kind == 9 {
+    if a.kind == AWAY {
         return !(is_none_or_legal(m, a.price) & is_none_or_legal(m, a.second));
     }
-    if a.kind == 10 {
-        return !(a.price <= 100000);
+    if a.kind == UNDERLYING {
+        return !(a.price <= TOP_UNDERLYING);
     }
     false
 }
@@ -57,10 +62,10 @@ pub fn is_bad_price(m: u32, a: Ask) -> bool
 pub fn is_bad_quantity(a: Ask) -> bool
     ensures { λ r. ⌜ r ≡ badQuantity a ⌝ }
 {
-    if a.kind <= 6 {
+    if is_entering(a.kind) {
         return !is_between(1, 99999, a.quantity);
     }
-    if a.kind == 11 {
+    if a.kind == PHASE {
         return !(a.quantity <= 2);
     }
     false
@@ -70,7 +75,7 @@ pub fn is_bad_quantity(a: Ask) -> bool
 fn is_not_open(phase: u32, a: Ask) -> bool
     ensures { λ r. ⌜ r ≡ notOpen phase a ⌝ }
 {
-    (a.kind <= 6) & !(phase == 1)
+    is_entering(a.kind) & !(phase == 1)
 }
 
 // 6: the maker is blocked.
@@ -79,7 +84,7 @@ fn is_blocked(s: Series, a: Ask) -> bool
     requires { ⌜ length (s .blocked) ≡ 16 ⌝ }
     ensures { λ r. ⌜ r ≡ isBlocked (s .blocked) a ⌝ }
 {
-    if a.kind <= 4 {
+    if is_quoting(a.kind) {
         let i = (a.party - 1) as usize;
         return s.blocked[i];
     }
@@ -102,13 +107,13 @@ fn is_full(b: Book, check: Check, a: Ask) -> bool
     requires { ⌜ Summary (entriesOf b) check ⌝ }
     ensures { λ r. ⌜ r ≡ isFull (entriesOf b) a ⌝ }
 {
-    if 6 < a.kind {
+    if !is_entering(a.kind) {
         return false;
     }
     if b.count < 64 {
         return false;
     }
-    if 4 < a.kind {
+    if !is_quoting(a.kind) {
         return true;
     }
     let party = a.party as u8;
@@ -119,7 +124,7 @@ fn is_full(b: Book, check: Check, a: Ask) -> bool
 fn is_spent(given: u32, a: Ask) -> bool
     ensures { λ r. ⌜ r ≡ isSpent given a ⌝ }
 {
-    (a.kind <= 6) & (1000000 <= given)
+    is_entering(a.kind) & (LAST_NUMBER <= given)
 }
 
 // 8: no such entry of that party, or no such quote.
@@ -129,11 +134,11 @@ fn is_missing(b: Book, check: Check, a: Ask) -> bool
     requires { ⌜ Summary (entriesOf b) check ⌝ }
     ensures { λ r. ⌜ r ≡ isMissing (entriesOf b) a ⌝ }
 {
-    if a.kind == 7 {
+    if a.kind == CANCEL_ENTRY {
         let party = a.party as u8;
         return is_gone(find_entry(b, party, a.entry));
     }
-    if a.kind == 8 {
+    if a.kind == CANCEL_QUOTE {
         let party = a.party as u8;
         return !has_quote(check, party, a.sell);
     }

@@ -10,7 +10,8 @@ use lib.Dec.{eqb, leb}
 use Rattle.prices.specs.declared.Prices.{Prices}
 use Rattle.prices.specs.Side.{meek}
 use Rattle.prices.specs.Step.{back}
-use Rattle.prices.specs.Aims.{minds, minded, upTo, shortOf, aimDisplay, aimWorking, aims}
+use Rattle.kinds.specs.Kinds.{minds}
+use Rattle.prices.specs.Aims.{minded, upTo, shortOf, aimDisplay, aimWorking, aims}
 use Rattle.prices.proofs.FrameLaws.{seen, seen-inj, seen-high, seen-meek, meek-either}
 use Rattle.prices.proofs.StepLaws.{Mpv, Legal, NoneOrLegal, given-none, back-lt, back-grid, back-high, back-legal}
 

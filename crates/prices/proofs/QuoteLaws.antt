@@ -8,7 +8,8 @@ use borrow.Author.Tests.{not-false}
 use lib.Dec.{eqb}
 use Rattle.prices.specs.declared.Prices.{Prices}
 use Rattle.prices.specs.Side.{reaches}
-use Rattle.prices.specs.Aims.{minds, minded, aims}
+use Rattle.kinds.specs.Kinds.{minds}
+use Rattle.prices.specs.Aims.{minded, aims}
 use Rattle.prices.specs.Rest.{marketable, restingPrices, atRest, stirsAt}
 use Rattle.prices.proofs.FrameLaws.{seen, seen-high, reaches-false, unreached}
 use Rattle.prices.proofs.StepLaws.{Mpv, Legal, NoneOrLegal}

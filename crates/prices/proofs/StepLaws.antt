@@ -8,7 +8,7 @@ use native.Mathlib.Omega.{arith}
 use borrow.Author.Tests.{leb-true, eqb-true, eqb-false, le-leb, eq-eqb, ne-eqb, not-true, not-false}
 use lib.Dec.{eqb, leb}
 use Rattle.prices.specs.Side.{reaches}
-use Rattle.prices.specs.Step.{mpv, onGrid, legal, noneOrLegal, back, lastPrice, pastLast}
+use Rattle.prices.specs.Step.{mpv, onGrid, legal, noneOrLegal, back, lastPrice, topPrice}
 use Rattle.prices.proofs.FrameLaws.{seen, reaches-true, reaches-false}
 use Rattle.lists.proofs.Bools.{clash, and-left, and-right}
 
@@ -21,7 +21,7 @@ pub data Mpv : ℕ → Type 0 where
 
 pub record Legal (m p : ℕ) : Type 0 where
   pub low : m ≤ p
-  pub high : p ≤ 100000
+  pub high : p ≤ topPrice
   pub grid : p % m ≡ 0
 
 -- none, or legal
@@ -41,14 +41,14 @@ is-mpv m h = go (eqb m 1) refl (eqb m 5) refl (eqb m 10) refl h
 pub is-legal : (m p : ℕ) → legal m p ≡ true → Legal m p
 unfolding legal onGrid
 is-legal m p h = record {
-  low = leb-true m p (and-left (leb m p) (leb p 100000 && eqb (p % m) 0) h);
-  high = leb-true p 100000 (and-left (leb p 100000) (eqb (p % m) 0) (and-right (leb m p) (leb p 100000 && eqb (p % m) 0) h));
-  grid = eqb-true (p % m) 0 (and-right (leb p 100000) (eqb (p % m) 0) (and-right (leb m p) (leb p 100000 && eqb (p % m) 0) h));
+  low = leb-true m p (and-left (leb m p) (leb p topPrice && eqb (p % m) 0) h);
+  high = leb-true p topPrice (and-left (leb p topPrice) (eqb (p % m) 0) (and-right (leb m p) (leb p topPrice && eqb (p % m) 0) h));
+  grid = eqb-true (p % m) 0 (and-right (leb p topPrice) (eqb (p % m) 0) (and-right (leb m p) (leb p topPrice && eqb (p % m) 0) h));
 }
 
 pub legal-is : {m p : ℕ} → Legal m p → legal m p ≡ true
 unfolding legal onGrid
-legal-is {m} {p} a = rw (le-leb m p (a .low), le-leb p 100000 (a .high), eq-eqb (p % m) 0 (a .grid))
+legal-is {m} {p} a = rw (le-leb m p (a .low), le-leb p topPrice (a .high), eq-eqb (p % m) 0 (a .grid))
 
 pub is-none-or-legal : (m p : ℕ) → noneOrLegal m p ≡ true → NoneOrLegal m p
 unfolding noneOrLegal
@@ -141,11 +141,9 @@ last-legal true cent = record { low = omega arith; high = omega arith; grid = re
 last-legal true nickel = record { low = omega arith; high = omega arith; grid = refl }
 last-legal true dime = record { low = omega arith; high = omega arith; grid = refl }
 
-pub within-last : (m p : ℕ) (s : Bool) → pastLast m s p ≡ false → seen s (lastPrice m s) ≤ seen s p
-unfolding pastLast
+pub within-last : (m p : ℕ) (s : Bool) → not (reaches s p (lastPrice m s)) ≡ false → seen s (lastPrice m s) ≤ seen s p
 within-last m p s e = reaches-true s p (lastPrice m s) (not-false (reaches s p (lastPrice m s)) e)
 
-pub past-last : {m : ℕ} (p : ℕ) (s : Bool) → Mpv m → p ≤ 200000 → pastLast m s p ≡ true → seen s p < seen s (lastPrice m s)
-unfolding pastLast
+pub past-last : {m : ℕ} (p : ℕ) (s : Bool) → Mpv m → p ≤ 200000 → not (reaches s p (lastPrice m s)) ≡ true → seen s p < seen s (lastPrice m s)
 past-last {m} p s v h e =
     reaches-false s p (lastPrice m s) h (omega (arith, last-legal s v .high)) (not-true (reaches s p (lastPrice m s)) e)

@@ -1,23 +1,16 @@
 -- The aims of a quote that slides, for a buy with limit L, away offer A, and C "the lowest working price of any sell in the book, dark included"; a sell is the mirror image.
--- Kinds are numbered as in messages: 1 plain, 2 MMLO, 3 MMALO, 4 MMRP, 5 displayed order, 6 dark order.
+-- Kinds are numbered as in messages; which of them slide, and which mind C, the table of crate kinds says.
 -- Assumes nothing.
 use Prim.Native.Nat.{ℕ}
-use mathlib.Core.Bool.{Bool, true, cond, _||_}
+use mathlib.Core.Bool.{Bool, true, cond}
 use mathlib.Core.Path.{_≡_}
 use lib.Dec.{eqb}
+use Rattle.kinds.specs.Kinds.{minds}
 use Rattle.prices.specs.declared.Prices.{Prices}
 use Rattle.prices.specs.Side.{meek}
 use Rattle.prices.specs.Step.{mpv, noneOrLegal, back}
 
--- "Only a sliding kind carries a display price apart from its limit: MMALO and MMRP."
-unfoldable pub sliding : ℕ → Bool
-sliding kind = eqb kind 3 || eqb kind 4
-
--- of these MMALO has C among its bounds, and never takes; MMRP has not, and takes
-unfoldable pub minds : ℕ → Bool
-minds kind = eqb kind 3
-
--- C as the kind has it among its bounds: none for MMRP
+-- C as the kind has it among its bounds: MMALO minds it; none for MMRP
 unfoldable pub minded : ℕ → ℕ → ℕ
 minded kind c = cond (minds kind) c 0
 

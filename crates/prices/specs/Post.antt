@@ -6,7 +6,7 @@ use lib.Dec.{eqb, ltb}
 use Rattle.prices.specs.declared.Figures.{Figures}
 use Rattle.prices.specs.Side.{reaches}
 use Rattle.prices.specs.Step.{lastPrice, apart, allowed}
-use Rattle.prices.specs.Aims.{sliding}
+use Rattle.kinds.specs.Kinds.{sliding}
 
 -- "20, not MMALO or MMRP and L is A or more"
 abbrev pub figures20 : ℕ → ℕ → Figures

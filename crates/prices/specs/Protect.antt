@@ -5,11 +5,12 @@ use mathlib.Core.Bool.{Bool, true, false, cond, not, _&&_}
 use lib.Dec.{eqb, leb, ltb}
 use Rattle.prices.specs.declared.Figures.{Figures}
 use Rattle.prices.specs.declared.Guard.{Guard}
+use Rattle.prices.specs.Step.{topPrice}
 
 -- what a caller has seen to: both prices are within the legal range, or none
 pub record Cents (b l : ℕ) : Type 0 where
-  pub best : b ≤ 100000
-  pub limit : l ≤ 100000
+  pub best : b ≤ topPrice
+  pub limit : l ≤ topPrice
 
 -- the first figure is at or above the second
 abbrev pub atLeast : Figures → Bool

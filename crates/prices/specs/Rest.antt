@@ -6,7 +6,8 @@ use lib.Dec.{eqb}
 use Rattle.prices.specs.declared.Prices.{Prices}
 use Rattle.prices.specs.Side.{keen, reaches}
 use Rattle.prices.specs.Step.{legal, back}
-use Rattle.prices.specs.Aims.{minds, aims}
+use Rattle.kinds.specs.Kinds.{minds}
+use Rattle.prices.specs.Aims.{aims}
 
 -- "It is marketable when its working aim is C or more." Asked of kinds that slide: of these MMRP alone; a missing C is reached by nobody
 unfoldable pub marketable : ℕ → Bool → ℕ → Prices → Bool

@@ -2,9 +2,8 @@
 -- price is stands once more, in plain words, in crate checking (specs/SoundBook).
 -- Assumes nothing.
 use Prim.Native.Nat.{ℕ, _+_, _-_, _*_, _%_}
-use mathlib.Core.Bool.{Bool, true, false, not, _&&_, _||_}
+use mathlib.Core.Bool.{Bool, true, false, _&&_, _||_}
 use lib.Dec.{eqb, leb}
-use Rattle.prices.specs.Side.{reaches}
 
 -- "the series' MPV: 1, 5 or 10"
 unfoldable pub mpv : ℕ → Bool
@@ -14,8 +13,11 @@ mpv m = eqb m 1 || (eqb m 5 || eqb m 10)
 unfoldable pub onGrid : ℕ → ℕ → Bool
 onGrid m p = eqb (p % m) 0
 
+abbrev pub topPrice : ℕ
+topPrice = 100000
+
 unfoldable pub legal : ℕ → ℕ → Bool
-legal m p = leb m p && (leb p 100000 && onGrid m p)
+legal m p = leb m p && (leb p topPrice && onGrid m p)
 
 -- a price that may be missing: none, or a legal one
 unfoldable pub noneOrLegal : ℕ → ℕ → Bool
@@ -26,13 +28,10 @@ unfoldable pub back : ℕ → Bool → ℕ → ℕ
 back m false p = p - m
 back m true p = p + m
 
--- the end of the legal prices that a side slides back to, and a display past it: "below M (sell: above 100,000)"
+-- the end of the legal prices that a side slides back to: "below M (sell: above 100,000)" is past it
 unfoldable pub lastPrice : ℕ → Bool → ℕ
 lastPrice m false = m
-lastPrice m true = 100000
-
-unfoldable pub pastLast : ℕ → Bool → ℕ → Bool
-pastLast m s p = not (reaches s p (lastPrice m s))
+lastPrice m true = topPrice
 
 -- "L minus display (sell: display minus L)"
 unfoldable pub apart : Bool → ℕ → ℕ → ℕ

@@ -2,23 +2,11 @@
 use crate::Prices;
 use crate::side::meeker;
 use crate::step::one_back;
+use kinds::is_minding;
 ghost use mathlib.Core.Path.{_≡_};
 ghost use mathlib.Core.Bool.{true};
 ghost use Rattle.prices.specs.Step.{mpv, noneOrLegal};
-ghost use Rattle.prices.specs.Aims.{sliding, minds, minded, upTo, shortOf, aims, Bounds};
-
-pub fn is_sliding(kind: u32) -> bool
-    ensures { λ r. ⌜ r ≡ sliding kind ⌝ }
-{
-    (kind == 3) | (kind == 4)
-}
-
-// Whether the kind has the contra price among its bounds.
-pub fn is_minding(kind: u32) -> bool
-    ensures { λ r. ⌜ r ≡ minds kind ⌝ }
-{
-    kind == 3
-}
+ghost use Rattle.prices.specs.Aims.{minded, upTo, shortOf, aims, Bounds};
 
 fn contra_minded(kind: u32, contra: u32) -> u32
     ensures { λ r. ⌜ r ≡ minded kind contra ⌝ }

@@ -1,9 +1,9 @@
 // Whether what is left of an entry may rest.
-use crate::aims::is_sliding;
 use crate::side::is_reaching;
 use crate::step::distance;
-use crate::step::is_past_last;
+use crate::step::last_price;
 use crate::step::most_distant;
+use kinds::is_sliding;
 ghost use mathlib.Core.Path.{_≡_};
 ghost use mathlib.Core.Bool.{true};
 ghost use Prim.Native.Nat.{_≤_};
@@ -21,7 +21,7 @@ pub fn is_locking(kind: u32, sell: bool, limit: u32, away: u32) -> bool
 pub fn is_unshowable(m: u32, kind: u32, sell: bool, display: u32) -> bool
     ensures { λ r. ⌜ r ≡ bars23 m kind sell display ⌝ }
 {
-    is_sliding(kind) & is_past_last(m, sell, display)
+    is_sliding(kind) & !is_reaching(sell, display, last_price(m, sell))
 }
 
 // It would be shown too far from its limit.

@@ -4,15 +4,16 @@ use crate::aims::aims_of;
 use crate::step::is_legal;
 use crate::step::is_mpv;
 use crate::step::is_none_or_legal;
+use kinds::is_asked;
 ghost use mathlib.Core.Path.{_≡_};
 ghost use mathlib.Core.Bool.{true};
 ghost use Rattle.prices.specs.Step.{mpv};
-ghost use Rattle.prices.specs.Request.{asked, pricesLegal, aimsRefused, aimsAnswered};
+ghost use Rattle.prices.specs.Request.{askable, pricesLegal, aimsRefused, aimsAnswered};
 
-fn is_asked(kind: u32, side: u32, m: u32) -> bool
-    ensures { λ r. ⌜ r ≡ asked kind side m ⌝ }
+fn is_askable(kind: u32, side: u32, m: u32) -> bool
+    ensures { λ r. ⌜ r ≡ askable kind side m ⌝ }
 {
-    ((kind == 3) | (kind == 4)) & ((side <= 1) & is_mpv(m))
+    is_asked(kind) & ((side <= 1) & is_mpv(m))
 }
 
 fn are_prices_legal(m: u32, limit: u32, away: u32, contra: u32) -> bool
@@ -36,7 +37,7 @@ fn refused_with(why: u32) -> Answered
 pub fn request_aims(kind: u32, side: u32, limit: u32, away: u32, contra: u32, m: u32) -> Answered
     ensures { λ r. ⌜ r ≡ aimsAnswered kind side limit away contra m ⌝ }
 {
-    if !is_asked(kind, side, m) {
+    if !is_askable(kind, side, m) {
         return refused_with(1);
     }
     if !are_prices_legal(m, limit, away, contra) {

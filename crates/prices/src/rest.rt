@@ -1,11 +1,11 @@
 // Resting quotes that slide: where they belong, and which have something to do.
 use crate::Prices;
 use crate::aims::aims_of;
-use crate::aims::is_minding;
 use crate::side::is_reaching;
 use crate::side::keener;
 use crate::step::is_legal;
 use crate::step::one_back;
+use kinds::is_minding;
 ghost use mathlib.Core.Path.{_≡_};
 ghost use mathlib.Core.Bool.{true};
 ghost use Rattle.prices.specs.Step.{mpv};

@@ -1,9 +1,11 @@
 // The step. With the definitions of specs/Step, this is all that knows how long it is.
-use crate::side::is_reaching;
 ghost use mathlib.Core.Path.{_≡_};
 ghost use mathlib.Core.Bool.{true};
 ghost use Prim.Native.Nat.{_-_, _≤_};
-ghost use Rattle.prices.specs.Step.{mpv, onGrid, legal, noneOrLegal, back, lastPrice, pastLast, apart, allowed};
+ghost use Rattle.prices.specs.Step.{mpv, onGrid, legal, noneOrLegal, back, lastPrice, apart, allowed};
+
+// The top of the legal prices.
+pub const TOP_PRICE: u32 = 100000;
 
 pub fn is_mpv(m: u32) -> bool
     ensures { λ r. ⌜ r ≡ mpv m ⌝ }
@@ -23,7 +25,7 @@ pub fn is_legal(m: u32, p: u32) -> bool
     requires { ⌜ mpv m ≡ true ⌝ }
     ensures { λ r. ⌜ r ≡ legal m p ⌝ }
 {
-    (m <= p) & ((p <= 100000) & is_on_grid(m, p))
+    (m <= p) & ((p <= TOP_PRICE) & is_on_grid(m, p))
 }
 
 pub fn is_none_or_legal(m: u32, p: u32) -> bool
@@ -44,14 +46,7 @@ pub fn one_back(m: u32, sell: bool, p: u32) -> u32
 pub fn last_price(m: u32, sell: bool) -> u32
     ensures { λ r. ⌜ r ≡ lastPrice m sell ⌝ }
 {
-    if sell { 100000 } else { m }
-}
-
-// Whether p lies outside the legal prices on the meek side: a buy's below them, a sell's above.
-pub fn is_past_last(m: u32, sell: bool, p: u32) -> bool
-    ensures { λ r. ⌜ r ≡ pastLast m sell p ⌝ }
-{
-    !is_reaching(sell, p, last_price(m, sell))
+    if sell { TOP_PRICE } else { m }
 }
 
 // p less q, and 0 where q is the larger.

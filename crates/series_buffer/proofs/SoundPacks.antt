@@ -18,6 +18,7 @@ use Rattle.bits.specs.Fields.{Fit}
 use Rattle.packing.specs.Codec.{bit, onlyIf, packs}
 use Rattle.packing.proofs.CodecLaws.{fit-packs}
 use Rattle.packing.proofs.ReportLaws.{bit-small}
+use Rattle.kinds.proofs.KindLaws.{enters-high}
 use Rattle.book.specs.declared.Entry.{Entry}
 use Rattle.book.specs.declared.Pricing.{Pricing}
 use Rattle.book.specs.declared.Pricing.the-variants.{Fixed, Dark, Sliding}
@@ -66,7 +67,7 @@ entry-packs m top few e f =
               (
                 omega (arith, f .party-high),
                 (
-                  omega (arith, f .kind-high),
+                  omega (arith, enters-high _ (f .entering)),
                   (
                     omega (arith, bit-small (e .sell)),
                     (number-fits (e .pricing), tt),

@@ -25,7 +25,8 @@ use Rattle.series.proofs.SoundSeriesDecides.{sound-series-decides}
 use Rattle.series.proofs.SetupSound.{setup-sound}
 use Rattle.handler.specs.declared.Ask.{Ask}
 use Rattle.arrival.specs.Arrive.{blocks}
-use Rattle.handler.specs.Asked.{askOf, quotes}
+use Rattle.handler.specs.Asked.{askOf}
+use Rattle.kinds.specs.Kinds.{quotes}
 use Rattle.handler.specs.Accept.{comer, blockedAfter, seriesAfter}
 use Rattle.handler.specs.Handle.{Handled, handled}
 use Rattle.handler.proofs.Ways.{accepting, handled-accepted}
@@ -90,7 +91,7 @@ packs-makers s h =
 
 makers-after : (s : Series) (a : Ask) → length (seriesAfter s a .blocked) ≡ length (s .blocked)
 unfolding blockedAfter
-makers-after s a = by (eqb (a .kind) 12) (quotes a && blocks (s .terms) (comer (s .terms .given) a) (entriesOf (s .book)))
+makers-after s a = by (eqb (a .kind) 12) (quotes (a .kind) && blocks (s .terms) (comer (s .terms .given) a) (entriesOf (s .book)))
   where
     by : (b c : Bool) → length (cond b (set (s .blocked) (a .party - 1) false) (cond c (set (s .blocked) (a .party - 1) true) (s .blocked))) ≡ length (s .blocked)
     by true c = length-set (s .blocked) (a .party - 1) false

@@ -9,12 +9,11 @@ use lib.Dec.{eqb}
 use lib.ListN.{length}
 use borrow.Author.Tests.{eq-eqb, not-true}
 use Rattle.prices.specs.declared.Market.{Market}
-use Rattle.prices.specs.Step.{mpv, noneOrLegal}
 use Rattle.prices.specs.Side.{away, keen, reaches}
-use Rattle.prices.specs.Aims.{sliding}
+use Rattle.kinds.specs.Kinds.{sliding}
 use Rattle.prices.specs.Ease.{beyond, easedTo, eases}
 use Rattle.prices.proofs.FrameLaws.{seen, seen-inj, seen-keen, reaches-false, keen-either}
-use Rattle.prices.proofs.StepLaws.{Mpv, Legal, NoneOrLegal, is-mpv, is-none-or-legal, present}
+use Rattle.prices.proofs.StepLaws.{Mpv, Legal, NoneOrLegal, present}
 use Rattle.prices.proofs.AimLaws.{unbound, faced}
 use Rattle.prices.proofs.RestLaws.{Slides, Eased}
 use Rattle.prices.proofs.EaseLaws.{Dropped, eased, uneased-eased}
@@ -33,7 +32,6 @@ use Rattle.book.specs.declared.Pricing.the-variants.{Fixed, Dark, Sliding}
 use Rattle.book.specs.Entries.{shownAs, display, priced}
 use Rattle.soundness_theory.proofs.Facts.{PricedAs, EntryFacts, Sound}
 use Rattle.soundness_theory.proofs.KeepLaws.{here-facts, here-short, sound-repriced}
-use Rattle.soundness_theory.specs.SoundMarket.{soundMarket}
 use Rattle.soundness_theory.proofs.MarketFacts.{MarketFacts}
 use Rattle.settling_theory.specs.Settle.{easesAs, easing, easedPrices, nextEase, easings}
 use Rattle.book.proofs.LookLaws.{First}

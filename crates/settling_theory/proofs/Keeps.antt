@@ -12,7 +12,6 @@ use Rattle.prices.proofs.FrameLaws.{seen}
 use Rattle.prices.proofs.RestLaws.{display-never-back}
 use Rattle.lists.specs.Places.{At, without, requeue}
 use Rattle.lists.specs.Tests.{All}
-use Rattle.lists.specs.Run.{Step, go, Complete, done, then}
 use Rattle.lists.proofs.TestLaws.{all-at, all-of, all-without, all-snoc}
 use Rattle.packing.specs.declared.report.Report.{Report}
 use Rattle.book.specs.declared.Entry.{Entry}

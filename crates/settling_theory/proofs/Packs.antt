@@ -9,12 +9,8 @@ use lib.ListN.{length}
 use Rattle.prices.specs.declared.Prices.{Prices}
 use Rattle.prices.specs.declared.Market.{Market}
 use Rattle.lists.specs.Places.{without}
-use Rattle.lists.specs.Tests.{All}
 use Rattle.lists.proofs.PlaceLaws.{at-last}
 use Rattle.packing.specs.declared.report.Report.{Report}
-use Rattle.packing.specs.Codec.{packs}
-use Rattle.packing.specs.Report.{reports}
-use Rattle.packing.specs.Room.{AllPack}
 use Rattle.packing.proofs.ReportLaws.{traded-packs, repriced-packs}
 use Rattle.book.specs.declared.Entry.{Entry}
 use Rattle.book.specs.Entries.{priced}

@@ -8,11 +8,9 @@ use mathlib.Core.List.{List, _++_}
 use native.Mathlib.Omega.{arith}
 use lib.ListN.{length, length-append}
 use Rattle.prices.specs.declared.Market.{Market}
-use Rattle.prices.specs.Step.{mpv, noneOrLegal}
 use Rattle.lists.specs.Places.{At}
 use Rattle.lists.specs.Tests.{All}
 use Rattle.lists.specs.Run.{stop, Complete}
-use Rattle.lists.proofs.Bools.{and-left}
 use Rattle.lists.proofs.TestLaws.{all-append, all-at, count-le}
 use Rattle.lists.proofs.RunLaws.{few, ran-complete, complete-stop, complete-keeps, complete-one, complete-tells}
 use Rattle.packing.specs.declared.report.Report.{Report}
@@ -20,12 +18,12 @@ use Rattle.packing.specs.Room.{AllPack}
 use Rattle.book.specs.declared.Entry.{Entry}
 use Rattle.soundness_theory.specs.Sound.{soundEntries}
 use Rattle.soundness_theory.proofs.Facts.{Sound}
-use Rattle.soundness_theory.proofs.SoundFacts.{is-sound, sound-is}
+use Rattle.soundness_theory.proofs.SoundFacts.{sound-is}
 use Rattle.telling.specs.Tell.{takerOf}
-use Rattle.soundness_theory.specs.SoundMarket.{soundMarket, SoundFor}
+use Rattle.soundness_theory.specs.SoundMarket.{SoundFor}
 use Rattle.settling_theory.specs.Settle.{easing, nextEase, easings, stirring, nextStir, triangle, stirrings, eased, stirred, settled}
 use Rattle.settling_theory.proofs.Shapes.{ease-step, stir-step, ease-stop, stir-stop, nobody-eases}
-use Rattle.soundness_theory.proofs.MarketFacts.{MarketFacts, market-facts, sound-for}
+use Rattle.soundness_theory.proofs.MarketFacts.{MarketFacts, sound-for}
 use Rattle.settling_theory.proofs.EaseRule.{ease-falls, ease-length, EntryEased, eased-uneased, all-eased}
 use Rattle.settling_theory.proofs.StirRule.{Easy, triangle-twice, triangle-mono, stir-falls, stir-length}
 use Rattle.settling_theory.proofs.Keeps.{ease-keeps, stir-keeps, Stems, stems-start, stems-kept}

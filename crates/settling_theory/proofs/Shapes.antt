@@ -9,7 +9,7 @@ use lib.Dec.{eqb}
 use Rattle.prices.specs.declared.Prices.{Prices}
 use Rattle.prices.specs.declared.Market.{Market}
 use Rattle.prices.specs.Side.{reaches}
-use Rattle.prices.specs.Aims.{minds}
+use Rattle.kinds.specs.Kinds.{minds}
 use Rattle.prices.specs.Rest.{marketable, restingPrices}
 use Rattle.lists.specs.Places.{requeue}
 use Rattle.lists.specs.Choose.{Found, nowhere, found}
@@ -17,7 +17,7 @@ use Rattle.lists.specs.Run.{stop, go}
 use Rattle.lists.proofs.Bools.{clash, and-left, and-right}
 use Rattle.lists.proofs.RunLaws.{never-goes, never-stops, same-step}
 use Rattle.lists.proofs.TestLaws.{all-of}
-use Rattle.lists.proofs.ChooseLaws.{Nobody, Chosen, Tells}
+use Rattle.lists.proofs.ChooseLaws.{Nobody, Tells}
 use Rattle.packing.specs.declared.report.Report.{Report}
 use Rattle.book.specs.declared.Entry.{Entry}
 use Rattle.book.specs.Entries.{display, against, priced}

@@ -9,7 +9,7 @@ use native.Mathlib.Omega.{arith}
 use lib.ListN.{length}
 use Rattle.prices.specs.declared.Market.{Market}
 use Rattle.prices.specs.Side.{away}
-use Rattle.prices.specs.Aims.{sliding}
+use Rattle.kinds.specs.Kinds.{sliding}
 use Rattle.prices.proofs.FrameLaws.{seen-high, facing-sym, mirror-le}
 use Rattle.prices.proofs.AimLaws.{faced}
 use Rattle.prices.proofs.RestLaws.{Slides, Eased}

@@ -9,7 +9,7 @@ use native.Mathlib.Omega.{arith}
 use lib.Dec.{eqb}
 use borrow.Author.Tests.{eqb-true, eqb-false}
 use Rattle.prices.specs.declared.Market.{Market}
-use Rattle.prices.specs.Aims.{minds}
+use Rattle.kinds.specs.Kinds.{minds}
 use Rattle.prices.proofs.QuoteLaws.{minding-rests}
 use Rattle.lists.specs.Places.{At}
 use Rattle.lists.specs.Tests.{All}

@@ -9,14 +9,13 @@ use lib.Dec.{eqb}
 use borrow.Author.Tests.{not-true}
 use Rattle.prices.specs.declared.Prices.{Prices}
 use Rattle.prices.specs.declared.Market.{Market}
-use Rattle.prices.specs.Side.{reaches, away}
-use Rattle.prices.specs.Aims.{minds}
+use Rattle.prices.specs.Side.{reaches}
+use Rattle.kinds.specs.Kinds.{minds}
 use Rattle.prices.specs.Rest.{marketable}
-use Rattle.prices.proofs.FrameLaws.{seen, reaches-true, reached}
+use Rattle.prices.proofs.FrameLaws.{seen, reaches-true}
 use Rattle.prices.proofs.AimLaws.{faced, aimed, aims-away}
 use Rattle.lists.proofs.Bools.{and-left, and-right}
 use Rattle.packing.specs.declared.report.Report.{Report}
-use Rattle.packing.specs.declared.report.Report.the-variants.{Noted, Rejected, Traded, Rested, Repriced, Cancelled}
 use Rattle.book.specs.declared.Entry.{Entry}
 use Rattle.book.specs.Look.{contra}
 use Rattle.soundness_theory.proofs.Facts.{Sound}

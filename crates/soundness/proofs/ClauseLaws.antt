@@ -8,7 +8,7 @@ use borrow.Author.Tests.{leb-true, eqb-true}
 use lib.Dec.{eqb, leb}
 use Rattle.prices.specs.Step.{mpv, legal, back}
 use Rattle.prices.specs.Side.{reaches}
-use Rattle.prices.specs.Aims.{sliding}
+use Rattle.kinds.specs.Kinds.{sliding, dark}
 use Rattle.prices.specs.Rest.{slides}
 use Rattle.prices.proofs.StepLaws.{is-mpv, is-legal, positive}
 use Rattle.lists.proofs.Bools.{and-left, and-right, and-both}
@@ -68,8 +68,8 @@ module _ (m given : ℕ) (e : Entry) (c : Clauses m given e) where
       at-limit b h = ap (legal m) (eqb-true (e .working) (e .limit) (and-right b (eqb (e .working) (e .limit)) h)) ∙ limit-legal
 
       by : (p : Pricing) → pricedAs m (e .kind) (e .sell) (e .limit) (e .working) p ≡ true → legal m (e .working) ≡ true
-      by Fixed h = at-limit (not (sliding (e .kind)) && not (eqb (e .kind) 6)) h
-      by Dark h = at-limit (eqb (e .kind) 6) h
+      by Fixed h = at-limit (not (sliding (e .kind)) && not (dark (e .kind))) h
+      by Dark h = at-limit (dark (e .kind)) h
       by (Sliding d) h =
           let z = reaches (e .sell) (e .working) d && (reaches (e .sell) d (back m (e .sell) (e .working)) && reaches (e .sell) (e .limit) (e .working)) in
           and-left (legal m (e .working)) z (and-right (legal m d) (legal m (e .working) && z)

@@ -12,7 +12,8 @@ use lib.Dec.{eqb, leb, ltb}
 use lib.ListN.{drop}
 use Rattle.prices.specs.Step.{legal, back}
 use Rattle.prices.specs.Side.{reaches}
-use Rattle.prices.specs.Aims.{sliding}
+use Rattle.kinds.specs.Kinds.{sliding, dark}
+use Rattle.kinds.proofs.KindLaws.{dark-rigid}
 use Rattle.prices.specs.Rest.{slides}
 use Rattle.prices.proofs.StepLaws.{is-legal, legal-is}
 use Rattle.lists.specs.Places.{At}
@@ -25,7 +26,7 @@ use Rattle.book.specs.declared.Pricing.the-variants.{Fixed, Dark, Sliding}
 use Rattle.book.specs.Entries.{quote}
 use Rattle.soundness_theory.specs.Sound.{between, pricedAs, soundEntry, distinct, oneQuote, uncrossed, uncrossedAs, soundPair}
 use Rattle.soundness_theory.proofs.SoundFacts.{between-both, both-between}
-use Rattle.soundness.specs.SoundBook.{LegalPrice, SoundSlide, AtLimit, Slider, Numbered, LegalFigures, SoundPrices, Distinct, OneQuote, Uncrossed}
+use Rattle.soundness.specs.SoundBook.{LegalPrice, SoundSlide, Quote, Slider, InTheDark, AtLimit, Numbered, LegalFigures, SoundPrices, Distinct, OneQuote, Uncrossed}
 use Rattle.soundness.proofs.ClauseLaws.{clauses-of, of-clauses}
 
 -- ---- prices ----
@@ -70,84 +71,54 @@ module _ (m l d w : ℕ) where
 
 -- ---- kinds ----
 
-slider : (k : ℕ) → sliding k ≡ true → Slider k
-unfolding sliding
-slider k h = go (eqb k 3) refl h
+-- the three sorts of kinds: there is no fourth
+sorts : (k : ℕ) → AtLimit k ⊎ (Slider k ⊎ InTheDark k)
+sorts k = by (sliding k) refl (dark k) refl
   where
-    go : (a : Bool) → eqb k 3 ≡ a → (a || eqb k 4) ≡ true → Slider k
-    go true e g = inl (eqb-true k 3 e)
-    go false e g = inr (eqb-true k 4 g)
-
--- the three sorts of kinds exclude each other
-limit-slider : {A : Type 0} (k : ℕ) → AtLimit k → Slider k → A
-limit-slider k (inl a) (inl b) = absurd (omega arith)
-limit-slider k (inl a) (inr b) = absurd (omega arith)
-limit-slider k (inr (inl a)) (inl b) = absurd (omega arith)
-limit-slider k (inr (inl a)) (inr b) = absurd (omega arith)
-limit-slider k (inr (inr a)) (inl b) = absurd (omega arith)
-limit-slider k (inr (inr a)) (inr b) = absurd (omega arith)
-
-limit-dark : {A : Type 0} (k : ℕ) → AtLimit k → k ≡ 6 → A
-limit-dark k (inl a) b = absurd (omega arith)
-limit-dark k (inr (inl a)) b = absurd (omega arith)
-limit-dark k (inr (inr a)) b = absurd (omega arith)
-
-slider-dark : {A : Type 0} (k : ℕ) → Slider k → k ≡ 6 → A
-slider-dark k (inl a) b = absurd (omega arith)
-slider-dark k (inr a) b = absurd (omega arith)
-
-slider-is : (k : ℕ) → Slider k → sliding k ≡ true
-unfolding sliding
-slider-is k (inl a) = rw a
-slider-is k (inr a) = rw a
-
--- and there is no fourth
-sorts : (k : ℕ) → 1 ≤ k → k ≤ 6 → AtLimit k ⊎ (Slider k ⊎ (k ≡ 6))
-sorts zero a b = absurd (omega arith)
-sorts (suc zero) a b = inl (inl refl)
-sorts (suc (suc zero)) a b = inl (inr (inl refl))
-sorts (suc (suc (suc zero))) a b = inr (inl (inl refl))
-sorts (suc (suc (suc (suc zero)))) a b = inr (inl (inr refl))
-sorts (suc (suc (suc (suc (suc zero))))) a b = inl (inr (inr refl))
-sorts (suc (suc (suc (suc (suc (suc zero)))))) a b = inr (inr refl)
-sorts (suc (suc (suc (suc (suc (suc (suc k))))))) a b = absurd (omega arith)
+    by : (a : Bool) → sliding k ≡ a → (b : Bool) → dark k ≡ b → AtLimit k ⊎ (Slider k ⊎ InTheDark k)
+    by true p b q = inr (inl p)
+    by false p true q = inr (inr q)
+    by false p false q = inl (p, q)
 
 -- ---- one entry ----
 
 module _ (m kind : ℕ) (s : Bool) (limit w : ℕ) where
   at-limit : (p : Pricing) → pricedAs m kind s limit w p ≡ true → AtLimit kind → (p ≡ Fixed) × (w ≡ limit)
   unfolding pricedAs
-  at-limit Fixed h k = (refl, eqb-true w limit (and-right (not (sliding kind) && not (eqb kind 6)) (eqb w limit) h))
-  at-limit Dark h k = limit-dark kind k (eqb-true kind 6 (and-left (eqb kind 6) (eqb w limit) h))
-  at-limit (Sliding d) h k = limit-slider kind k (slider kind (and-left (sliding kind) (slides m s limit d w) h))
+  at-limit Fixed h k = (refl, eqb-true w limit (and-right (not (sliding kind) && not (dark kind)) (eqb w limit) h))
+  at-limit Dark h k = clash (and-left (dark kind) (eqb w limit) h) (k .1)
+  at-limit (Sliding d) h k = clash (and-left (sliding kind) (slides m s limit d w) h) (k .0)
 
-  in-the-dark : (p : Pricing) → pricedAs m kind s limit w p ≡ true → kind ≡ 6 → (p ≡ Dark) × (w ≡ limit)
+  -- what is fixed neither slides nor is dark
+  fixed-sort : pricedAs m kind s limit w Fixed ≡ true → AtLimit kind
   unfolding pricedAs
-  in-the-dark Fixed h k =
-      clash (eq-eqb kind 6 k) (not-true (eqb kind 6) (and-right (not (sliding kind)) (not (eqb kind 6)) (and-left (not (sliding kind) && not (eqb kind 6)) (eqb w limit) h)))
-  in-the-dark Dark h k = (refl, eqb-true w limit (and-right (eqb kind 6) (eqb w limit) h))
-  in-the-dark (Sliding d) h k = slider-dark kind (slider kind (and-left (sliding kind) (slides m s limit d w) h)) k
+  fixed-sort h =
+      let k = and-left (not (sliding kind) && not (dark kind)) (eqb w limit) h in
+      (not-true (sliding kind) (and-left (not (sliding kind)) (not (dark kind)) k), not-true (dark kind) (and-right (not (sliding kind)) (not (dark kind)) k))
+
+  in-the-dark : (p : Pricing) → pricedAs m kind s limit w p ≡ true → InTheDark kind → (p ≡ Dark) × (w ≡ limit)
+  unfolding pricedAs
+  in-the-dark Fixed h k = clash k (fixed-sort h .1)
+  in-the-dark Dark h k = (refl, eqb-true w limit (and-right (dark kind) (eqb w limit) h))
+  in-the-dark (Sliding d) h k = clash (and-left (sliding kind) (slides m s limit d w) h) (dark-rigid kind k)
 
   on-the-slide : (p : Pricing) → pricedAs m kind s limit w p ≡ true → Slider kind → (d : ℕ) × ((p ≡ Sliding d) × SoundSlide m s limit d w)
   unfolding pricedAs
-  on-the-slide Fixed h k =
-      clash (slider-is kind k) (not-true (sliding kind) (and-left (not (sliding kind)) (not (eqb kind 6)) (and-left (not (sliding kind) && not (eqb kind 6)) (eqb w limit) h)))
-  on-the-slide Dark h k = slider-dark kind k (eqb-true kind 6 (and-left (eqb kind 6) (eqb w limit) h))
+  on-the-slide Fixed h k = clash k (fixed-sort h .0)
+  on-the-slide Dark h k = clash k (dark-rigid kind (and-left (dark kind) (eqb w limit) h))
   on-the-slide (Sliding d) h k = (d, (refl, slide-facts m limit d w s (and-right (sliding kind) (slides m s limit d w) h)))
 
   limit-priced : AtLimit kind → w ≡ limit → pricedAs m kind s limit w Fixed ≡ true
-  unfolding pricedAs sliding
-  limit-priced (inl k) e = rw k (eq-eqb w limit e)
-  limit-priced (inr (inl k)) e = rw k (eq-eqb w limit e)
-  limit-priced (inr (inr k)) e = rw k (eq-eqb w limit e)
+  unfolding pricedAs
+  limit-priced k e = rw (k .0, k .1) (eq-eqb w limit e)
 
-  dark-priced : kind ≡ 6 → w ≡ limit → pricedAs m kind s limit w Dark ≡ true
+  dark-priced : InTheDark kind → w ≡ limit → pricedAs m kind s limit w Dark ≡ true
   unfolding pricedAs
   dark-priced k e = rw k (eq-eqb w limit e)
 
   slide-priced : (d : ℕ) → Slider kind → SoundSlide m s limit d w → pricedAs m kind s limit w (Sliding d) ≡ true
   unfolding pricedAs
-  slide-priced d k f = and-both (sliding kind) (slides m s limit d w) (slider-is kind k) (facts-slide m limit d w s f)
+  slide-priced d k f = and-both (sliding kind) (slides m s limit d w) k (facts-slide m limit d w s f)
 
 -- all that is asked of one entry
 pub record SoundEntry (m given : ℕ) (e : Entry) : Type 0 where
@@ -164,11 +135,11 @@ entry-facts m given e h =
         limit = legal-price m (e .limit) (and-left (legal m (e .limit)) (between 1 99999 (e .quantity)) (c .size));
         quantity = between-both 1 99999 (e .quantity) (and-right (legal m (e .limit)) (between 1 99999 (e .quantity)) (c .size));
         party = between-both 1 99 (e .party) (and-left (between 1 99 (e .party)) (not (quote e) || leb (e .party) 16) (c .party));
-        maker = λ q. leb-true (e .party) 16 (quoted (quote e) (le-leb (e .kind) 4 q)
+        maker = λ q. leb-true (e .party) 16 (quoted (quote e) q
             (and-right (between 1 99 (e .party)) (not (quote e) || leb (e .party) 16) (c .party)));
       };
       prices = record {
-        kind = between-both 1 6 (e .kind) (c .kind);
+        kind = c .kind;
         plain = at-limit m (e .kind) (e .sell) (e .limit) (e .working) (e .pricing) (c .price);
         dark = in-the-dark m (e .kind) (e .sell) (e .limit) (e .working) (e .pricing) (c .price);
         slides = on-the-slide m (e .kind) (e .sell) (e .limit) (e .working) (e .pricing) (c .price);
@@ -181,17 +152,17 @@ entry-facts m given e h =
 pub facts-entry : (m given : ℕ) (e : Entry) → SoundEntry m given e → soundEntry m given e ≡ true
 facts-entry m given e f = of-clauses m given e (record {
   number = both-between 1 given (e .number) (f .number);
-  kind = both-between 1 6 (e .kind) (f .prices .kind);
+  kind = f .prices .kind;
   party = and-both (between 1 99 (e .party)) (not (quote e) || leb (e .party) 16) (both-between 1 99 (e .party) (f .figures .party)) (quoted (quote e) refl);
   size = and-both (legal m (e .limit)) (between 1 99999 (e .quantity)) (price-legal m (e .limit) (f .figures .limit)) (both-between 1 99999 (e .quantity) (f .figures .quantity));
-  price = by (sorts (e .kind) (f .prices .kind .0) (f .prices .kind .1));
+  price = by (sorts (e .kind));
 })
   where
     quoted : (q : Bool) → quote e ≡ q → (not q || leb (e .party) 16) ≡ true
     quoted false k = refl
-    quoted true k = le-leb (e .party) 16 (f .figures .maker (leb-true (e .kind) 4 k))
+    quoted true k = le-leb (e .party) 16 (f .figures .maker k)
 
-    by : AtLimit (e .kind) ⊎ (Slider (e .kind) ⊎ (e .kind ≡ 6)) → pricedAs m (e .kind) (e .sell) (e .limit) (e .working) (e .pricing) ≡ true
+    by : AtLimit (e .kind) ⊎ (Slider (e .kind) ⊎ InTheDark (e .kind)) → pricedAs m (e .kind) (e .sell) (e .limit) (e .working) (e .pricing) ≡ true
     by (inl k) = rw (f .prices .plain k .0) (limit-priced m (e .kind) (e .sell) (e .limit) (e .working) k (f .prices .plain k .1))
     by (inr (inl k)) =
         let z = f .prices .slides k in
@@ -213,11 +184,11 @@ module _ (x y : Entry) where
       let h₁ = and-right (distinct x y) (oneQuote x y && uncrossed x y) h in
       (and-left (distinct x y) (oneQuote x y && uncrossed x y) h, (and-left (oneQuote x y) (uncrossed x y) h₁, and-right (oneQuote x y) (uncrossed x y) h₁))
 
-  two-quotes : oneQuote x y ≡ true → x .kind ≤ 4 → y .kind ≤ 4 → x .party ≡ y .party → x .sell ≡ y .sell → ⊥
+  two-quotes : oneQuote x y ≡ true → Quote x → Quote y → x .party ≡ y .party → x .sell ≡ y .sell → ⊥
   two-quotes h a b c d =
       let both : (quote x && (quote y && (eqb (x .party) (y .party) && Bool·beq (x .sell) (y .sell)))) ≡ true =
-      and-both (quote x) (quote y && (eqb (x .party) (y .party) && Bool·beq (x .sell) (y .sell))) (le-leb (x .kind) 4 a)
-      (and-both (quote y) (eqb (x .party) (y .party) && Bool·beq (x .sell) (y .sell)) (le-leb (y .kind) 4 b)
+      and-both (quote x) (quote y && (eqb (x .party) (y .party) && Bool·beq (x .sell) (y .sell))) a
+      (and-both (quote y) (eqb (x .party) (y .party) && Bool·beq (x .sell) (y .sell)) b
       (and-both (eqb (x .party) (y .party)) (Bool·beq (x .sell) (y .sell)) (eq-eqb (x .party) (y .party) c) (eq-beq (x .sell) (y .sell) d))) in
       clash both (not-true (quote x && (quote y && (eqb (x .party) (y .party) && Bool·beq (x .sell) (y .sell)))) h)
 
@@ -240,7 +211,7 @@ module _ (x y : Entry) where
       one : (a : Bool) → quote x ≡ a → (b : Bool) → quote y ≡ b → (c : Bool) → eqb (x .party) (y .party) ≡ c
           → (d : Bool) → Bool·beq (x .sell) (y .sell) ≡ d → not (a && (b && (c && d))) ≡ true
       one true p true q true r true t =
-          absurd (f .quotes (leb-true (x .kind) 4 p) (leb-true (y .kind) 4 q) (eqb-true (x .party) (y .party) r) (beq-true (x .sell) (y .sell) t))
+          absurd (f .quotes p q (eqb-true (x .party) (y .party) r) (beq-true (x .sell) (y .sell) t))
       one true p true q true r false t = refl
       one true p true q false r d t = refl
       one true p false q c r d t = refl

@@ -4,7 +4,8 @@
 use Prim.Native.Nat.{ℕ, _+_, _≤_, _<_, _%_}
 use mathlib.Core.Path.{_≡_}
 use mathlib.Core.Bool.{Bool, true, false}
-use mathlib.Core.Logic.{_⊎_}
+use Rattle.prices.specs.Step.{topPrice}
+use Rattle.kinds.specs.Kinds.{enters, quotes, sliding, dark}
 use Rattle.lists.specs.Places.{At}
 use Rattle.book.specs.declared.Entry.{Entry}
 use Rattle.book.specs.declared.Book.{Book}
@@ -14,7 +15,7 @@ use Rattle.book.specs.Shape.{zeroEntry, entriesOf}
 -- "Prices are cents, from M to 100,000 and multiples of M"
 pub record LegalPrice (m p : ℕ) : Type 0 where
   pub from : m ≤ p
-  pub to : p ≤ 100000
+  pub to : p ≤ topPrice
   pub multiple : p % m ≡ 0
 
 -- p is no less aggressive than q: to a buy no lower, to a sell no higher
@@ -35,16 +36,19 @@ pub record SoundSlide (m : ℕ) (s : Bool) (limit display working : ℕ) : Type 
   pub near : AtMost m s working display
   pub inside : Aggressive s limit working
 
--- kinds 1 to 4 are quotes
+-- the kinds, by the table of crate kinds: quotes; and by what is asked of their prices, those that slide, MMALO and MMRP, those that are dark, and the others, which
+-- are plain, MMLO and displayed orders
 abbrev pub Quote : Entry → Type 0
-Quote e = e .kind ≤ 4
-
--- the kinds by what is asked of their prices: plain, MMLO and displayed orders; MMALO and MMRP
-abbrev pub AtLimit : ℕ → Type 0
-AtLimit kind = (kind ≡ 1) ⊎ ((kind ≡ 2) ⊎ (kind ≡ 5))
+Quote e = quotes (e .kind) ≡ true
 
 abbrev pub Slider : ℕ → Type 0
-Slider kind = (kind ≡ 3) ⊎ (kind ≡ 4)
+Slider kind = sliding kind ≡ true
+
+abbrev pub InTheDark : ℕ → Type 0
+InTheDark kind = dark kind ≡ true
+
+abbrev pub AtLimit : ℕ → Type 0
+AtLimit kind = (sliding kind ≡ false) × (dark kind ≡ false)
 
 -- ---- what is asked of each entry that rests ----
 
@@ -59,13 +63,13 @@ pub record LegalFigures (m : ℕ) (e : Entry) : Type 0 where
   pub party : (1 ≤ e .party) × (e .party ≤ 99)
   pub maker : Quote e → e .party ≤ 16
 
--- it is of one of the kinds 1 to 6, and its prices are as its kind has them
+-- it is of a kind that enters, and its prices are as its kind has them
 pub record SoundPrices (m : ℕ) (e : Entry) : Type 0 where
-  pub kind : (1 ≤ e .kind) × (e .kind ≤ 6)
+  pub kind : enters (e .kind) ≡ true
   -- "plain, MMLO and displayed orders display and work at the limit"
   pub plain : AtLimit (e .kind) → (e .pricing ≡ Fixed) × (e .working ≡ e .limit)
   -- "dark ones work at the limit"
-  pub dark : e .kind ≡ 6 → (e .pricing ≡ Dark) × (e .working ≡ e .limit)
+  pub dark : InTheDark (e .kind) → (e .pricing ≡ Dark) × (e .working ≡ e .limit)
   -- "for MMALO and MMRP, .."
   pub slides : Slider (e .kind) → (d : ℕ) × ((e .pricing ≡ Sliding d) × SoundSlide m (e .sell) (e .limit) d (e .working))
 

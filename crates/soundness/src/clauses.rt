@@ -1,12 +1,16 @@
 // The clauses on a single entry, in document 01's order. Most entries pass them all, so each failure returns at once.
 use book::Entry;
 use book::Pricing;
+use book::entries::is_quote;
+use book::entries::kind_of;
+use kinds::is_dark;
+use kinds::is_entering;
+use kinds::is_sliding;
 use prices::rest::is_slide;
 use prices::step::is_legal;
 ghost use mathlib.Core.Path.{_≡_};
 ghost use mathlib.Core.Bool.{true};
 ghost use Rattle.prices.specs.Step.{mpv};
-ghost use Rattle.prices.specs.Aims.{sliding};
 ghost use Rattle.soundness_theory.specs.Sound.{numbered, kinded, partied, sized, pricedWell, soundEntry, fixedPricing, unusedEntry};
 
 fn is_numbered(given: u32, e: Entry) -> bool
@@ -18,14 +22,14 @@ fn is_numbered(given: u32, e: Entry) -> bool
 fn is_kinded(e: Entry) -> bool
     ensures { λ r. ⌜ r ≡ kinded e ⌝ }
 {
-    (1 <= e.kind) & (e.kind <= 6)
+    is_entering(kind_of(e))
 }
 
 // Quotes are makers'.
 fn is_partied(e: Entry) -> bool
     ensures { λ r. ⌜ r ≡ partied e ⌝ }
 {
-    ((1 <= e.party) & (e.party <= 99)) & (!(e.kind <= 4) | (e.party <= 16))
+    ((1 <= e.party) & (e.party <= 99)) & (!is_quote(e) | (e.party <= 16))
 }
 
 fn is_sized(m: u32, e: Entry) -> bool
@@ -35,21 +39,16 @@ fn is_sized(m: u32, e: Entry) -> bool
     is_legal(m, e.limit) & ((1 <= e.quantity) & (e.quantity <= 99999))
 }
 
-fn is_sliding_kind(kind: u8) -> bool
-    ensures { λ r. ⌜ r ≡ sliding kind ⌝ }
-{
-    (kind == 3) | (kind == 4)
-}
-
 fn is_priced_well(m: u32, e: Entry) -> bool
     requires { ⌜ mpv m ≡ true ⌝ }
     ensures { λ r. ⌜ r ≡ pricedWell m e ⌝ }
 {
+    let kind = kind_of(e);
     let p = e.pricing;
     match p {
-        Pricing::Fixed => (!is_sliding_kind(e.kind) & (e.kind != 6)) & (e.working == e.limit),
-        Pricing::Dark => (e.kind == 6) & (e.working == e.limit),
-        Pricing::Sliding(d) => is_sliding_kind(e.kind) & is_slide(m, e.sell, e.limit, d, e.working),
+        Pricing::Fixed => (!is_sliding(kind) & !is_dark(kind)) & (e.working == e.limit),
+        Pricing::Dark => is_dark(kind) & (e.working == e.limit),
+        Pricing::Sliding(d) => is_sliding(kind) & is_slide(m, e.sell, e.limit, d, e.working),
     }
 }
 

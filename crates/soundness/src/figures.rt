@@ -101,10 +101,10 @@ fn seat_at(party: u8, sell: bool) -> usize
 pub fn seat_of(e: Entry) -> usize
     ensures { λ r. ⌜ r ≡ seatOf e ⌝ }
 {
-    if 4 < e.kind {
-        return 0;
+    if is_quote(e) {
+        return seat_at(e.party, e.sell);
     }
-    seat_at(e.party, e.sell)
+    0
 }
 
 // The best price that a side faces, and the best that it is shown; 0 for none.

@@ -5,7 +5,7 @@ use Prim.Native.Nat.{ℕ, _≤_, _<_}
 use mathlib.Core.Path.{_≡_}
 use mathlib.Core.Bool.{Bool, true, false}
 use mathlib.Core.List.{List, [], _∷_}
-use Rattle.prices.specs.Aims.{sliding}
+use Rattle.kinds.specs.Kinds.{enters, sliding, dark}
 use Rattle.prices.proofs.FrameLaws.{seen, Facing}
 use Rattle.prices.proofs.StepLaws.{Mpv, Legal}
 use Rattle.prices.proofs.RestLaws.{Slides}
@@ -20,12 +20,12 @@ use Rattle.book.specs.Entries.{quote}
 -- "plain, MMLO and displayed orders display and work at the limit"
 pub record AtLimit (kind limit w : ℕ) : Type 0 where
   pub rigid : sliding kind ≡ false
-  pub shown : kind ≡ 6 → ⊥
+  pub shown : dark kind ≡ false
   pub at : w ≡ limit
 
 -- "dark ones work at the limit"
 pub record InTheDark (kind limit w : ℕ) : Type 0 where
-  pub dark : kind ≡ 6
+  pub dark : dark kind ≡ true
   pub at : w ≡ limit
 
 -- "for MMALO and MMRP, .."
@@ -41,8 +41,7 @@ PricedAs m kind s limit w (Sliding d) = AsItSlides m kind s limit d w
 pub record EntryFacts (m top : ℕ) (e : Entry) : Type 0 where
   pub counted : 1 ≤ e .number
   pub given : e .number ≤ top
-  pub kind-low : 1 ≤ e .kind
-  pub kind-high : e .kind ≤ 6
+  pub entering : enters (e .kind) ≡ true
   pub party-low : 1 ≤ e .party
   pub party-high : e .party ≤ 99
   pub maker : quote e ≡ true → e .party ≤ 16

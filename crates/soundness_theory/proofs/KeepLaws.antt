@@ -76,8 +76,7 @@ pub less-facts : {m top : ℕ} (q : ℕ) (x : Entry) → q < x .quantity → Ent
 less-facts q x h f = record {
   counted = f .counted;
   given = f .given;
-  kind-low = f .kind-low;
-  kind-high = f .kind-high;
+  entering = f .entering;
   party-low = f .party-low;
   party-high = f .party-high;
   maker = f .maker;
@@ -94,8 +93,7 @@ pub priced-facts : {m top : ℕ} (e : Entry) (p : Prices) → EntryFacts m top e
 priced-facts e p f sl = record {
   counted = f .counted;
   given = f .given;
-  kind-low = f .kind-low;
-  kind-high = f .kind-high;
+  entering = f .entering;
   party-low = f .party-low;
   party-high = f .party-high;
   maker = f .maker;
@@ -181,8 +179,7 @@ module _ {m top : ℕ} {l : List Entry} (so : Sound m top l) where
       higher e f = record {
         counted = f .counted;
         given = omega (arith, f .given);
-        kind-low = f .kind-low;
-        kind-high = f .kind-high;
+        entering = f .entering;
         party-low = f .party-low;
         party-high = f .party-high;
         maker = f .maker;

@@ -8,7 +8,7 @@ use native.Mathlib.Omega.{arith}
 use lib.Dec.{eqb, leb}
 use borrow.Author.Tests.{leb-true, le-leb, ltb-true, lt-ltb, eqb-true, eqb-false, eq-eqb, ne-eqb, not-true}
 use Rattle.prices.specs.Step.{mpv, legal}
-use Rattle.prices.specs.Aims.{sliding}
+use Rattle.kinds.specs.Kinds.{sliding, dark}
 use Rattle.prices.specs.Rest.{slides}
 use Rattle.prices.proofs.FrameLaws.{seen, Facing}
 use Rattle.prices.proofs.StepLaws.{Mpv, Legal, is-mpv, is-legal, legal-is}
@@ -36,16 +36,16 @@ module _ (m kind : ℕ) (s : Bool) (limit w : ℕ) (a : Legal m limit) where
   priced-facts : (p : Pricing) → pricedAs m kind s limit w p ≡ true → PricedAs m kind s limit w p
   unfolding pricedAs
   priced-facts Fixed h =
-      let x = and-parts (not (sliding kind) && not (eqb kind 6)) (eqb w limit) h in
-      let y = and-parts (not (sliding kind)) (not (eqb kind 6)) (x .0) in
-      record { rigid = not-true (sliding kind) (y .0); shown = eqb-false kind 6 (not-true (eqb kind 6) (y .1)); at = eqb-true w limit (x .1) }
-  priced-facts Dark h = let x = and-parts (eqb kind 6) (eqb w limit) h in record { dark = eqb-true kind 6 (x .0); at = eqb-true w limit (x .1) }
+      let x = and-parts (not (sliding kind) && not (dark kind)) (eqb w limit) h in
+      let y = and-parts (not (sliding kind)) (not (dark kind)) (x .0) in
+      record { rigid = not-true (sliding kind) (y .0); shown = not-true (dark kind) (y .1); at = eqb-true w limit (x .1) }
+  priced-facts Dark h = let x = and-parts (dark kind) (eqb w limit) h in record { dark = x .0; at = eqb-true w limit (x .1) }
   priced-facts (Sliding d) h = let x = and-parts (sliding kind) (slides m s limit d w) h in record { able = x .0; slides = is-slides s limit d w a (x .1) }
 
   facts-priced : Mpv m → (p : Pricing) → PricedAs m kind s limit w p → pricedAs m kind s limit w p ≡ true
   unfolding pricedAs
-  facts-priced v Fixed f = rw (f .rigid, ne-eqb kind 6 (f .shown), eq-eqb w limit (f .at))
-  facts-priced v Dark f = rw (eq-eqb kind 6 (f .dark), eq-eqb w limit (f .at))
+  facts-priced v Fixed f = rw (f .rigid, f .shown, eq-eqb w limit (f .at))
+  facts-priced v Dark f = rw (f .dark, eq-eqb w limit (f .at))
   facts-priced v (Sliding d) f = rw (f .able, slides-is s v (f .slides))
 
   works-legal : (p : Pricing) → PricedAs m kind s limit w p → Legal m w
@@ -64,7 +64,6 @@ module _ (m top : ℕ) (e : Entry) where
       let c = and-parts (partied e) (sized m e && pricedWell m e) (b .1) in
       let d = and-parts (sized m e) (pricedWell m e) (c .1) in
       let n = between-both 1 top (e .number) (a .0) in
-      let k = between-both 1 6 (e .kind) (b .0) in
       let p = and-parts (between 1 99 (e .party)) (not (quote e) || leb (e .party) 16) (c .0) in
       let q = between-both 1 99 (e .party) (p .0) in
       let z = and-parts (legal m (e .limit)) (between 1 99999 (e .quantity)) (d .0) in
@@ -75,8 +74,7 @@ module _ (m top : ℕ) (e : Entry) where
       record {
         counted = n .0;
         given = n .1;
-        kind-low = k .0;
-        kind-high = k .1;
+        entering = b .0;
         party-low = q .0;
         party-high = q .1;
         maker = λ t. leb-true (e .party) 16 (rw t at (p .1));
@@ -91,7 +89,7 @@ module _ (m top : ℕ) (e : Entry) where
   unfolding soundEntry
   facts-entry v f = rw (
     both-between 1 top (e .number) (f .counted, f .given),
-    both-between 1 6 (e .kind) (f .kind-low, f .kind-high),
+    f .entering,
     both-between 1 99 (e .party) (f .party-low, f .party-high),
     maker (quote e) refl,
     legal-is (f .limit),

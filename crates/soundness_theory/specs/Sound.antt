@@ -6,7 +6,7 @@ use mathlib.Core.List.{List}
 use lib.Dec.{eqb, leb, ltb}
 use lib.ListN.{drop}
 use Rattle.prices.specs.Step.{legal}
-use Rattle.prices.specs.Aims.{sliding}
+use Rattle.kinds.specs.Kinds.{enters, sliding, dark}
 use Rattle.prices.specs.Rest.{slides}
 use Rattle.lists.specs.Tests.{all, pairs}
 use Rattle.book.specs.declared.Entry.{Entry}
@@ -26,9 +26,9 @@ between low high x = leb low x && leb x high
 abbrev pub numbered : ℕ → Entry → Bool
 numbered given e = between 1 given (e .number)
 
--- kinds 1 to 6; "Parties 1 to 99; only 1 to 16 are makers", and quotes are makers'
+-- it is of a kind that enters; "Parties 1 to 99; only 1 to 16 are makers", and quotes are makers'
 abbrev pub kinded : Entry → Bool
-kinded e = between 1 6 (e .kind)
+kinded e = enters (e .kind)
 
 abbrev pub partied : Entry → Bool
 partied e = between 1 99 (e .party) && (not (quote e) || leb (e .party) 16)
@@ -40,8 +40,8 @@ sized m e = legal m (e .limit) && between 1 99999 (e .quantity)
 -- "plain, MMLO and displayed orders display and work at the limit, dark ones work at the limit; for MMALO and MMRP, display and working price are legal,
 -- working is no less aggressive than display, by at most M, and not beyond the limit"
 unfoldable pub pricedAs : ℕ → ℕ → Bool → ℕ → ℕ → Pricing → Bool
-pricedAs m kind s limit w Fixed = (not (sliding kind) && not (eqb kind 6)) && eqb w limit
-pricedAs m kind s limit w Dark = eqb kind 6 && eqb w limit
+pricedAs m kind s limit w Fixed = (not (sliding kind) && not (dark kind)) && eqb w limit
+pricedAs m kind s limit w Dark = dark kind && eqb w limit
 pricedAs m kind s limit w (Sliding d) = sliding kind && slides m s limit d w
 
 abbrev pub pricedWell : ℕ → Entry → Bool

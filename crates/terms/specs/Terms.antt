@@ -1,9 +1,17 @@
--- What the rules read off a series' numbers.
--- No rule of document 01 stands here, only words for the rules and for contracts.
+-- The series' numbers: how high two of them may be, and what the rules read off them.
 -- Assumes nothing.
+use Prim.Native.Nat.{ℕ}
 use Rattle.prices.specs.declared.Market.{Market}
 use Rattle.prices.specs.declared.Guard.{Guard}
 use Rattle.terms.specs.declared.Terms.{Terms}
+
+-- "underlying price, 0 to 100,000, any cent"
+abbrev pub topUnderlying : ℕ
+topUnderlying = 100000
+
+-- "Entry numbers run 1 to 1,000,000"
+abbrev pub lastNumber : ℕ
+lastNumber = 1000000
 
 abbrev pub marketOf : Terms → Market
 marketOf t = record { m = t .m; bid = t .bid; offer = t .offer }

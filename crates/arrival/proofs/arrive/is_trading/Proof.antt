@@ -1,6 +1,6 @@
 use borrow.Author.Tests.{not-true}
 use Rattle.arrival.specs.Take.{offered}
-use Rattle.prices.specs.Aims.{minds}
+use Rattle.kinds.specs.Kinds.{minds}
 use Rattle.book.specs.Shape.{entriesOf}
 use mathlib.Core.Path.{sym, ap, _∙_}
 use Rattle.arrival.proofs.EnterLaws.{facts-of, trades-none, trades-far, trades-now}

@@ -1,16 +1,30 @@
-use borrow.Author.Tests.{eq-eqb, ne-eqb}
+use mathlib.Core.Path.{sym, _∙_, ap}
+use Rattle.kinds.specs.Kinds.{light}
 use borrow.Author.Needs.{needs}
 use Rattle.arrival.proofs.post.is_barred_21.Statement.{statement}
 use Rattle.arrival.proofs.post.is_barred_21.Tie as tie
+
+kind-of-requires : tie.Need-kind-of-requires
+kind-of-requires c κs = search needs
+
+is-light-requires : tie.Need-is-light-requires
+is-light-requires c κs = search needs
 
 is-hidden-within-requires : tie.Need-is-hidden-within-requires
 is-hidden-within-requires c κs = search needs
 
 returns : tie.Need-returns
-returns c = rw (eq-eqb _ 2 (c .before .if1 .taken)) (c .is-hidden-within .ensures)
+returns c =
+    let at-if1 : tie.Then1 = search in
+    let at-is-light : tie.After-is-light = search in
+    let at-kind-of : tie.After-kind-of = search in
+    rw (sym (at-is-light .is-light .ensures ∙ ap light (at-kind-of .kind-of .ensures)) ∙ at-if1 .if1 .taken) (c .is-hidden-within .ensures)
 
 returns-2 : tie.Need-returns-2
-returns-2 c = rw (ne-eqb _ 2 (c .if1 .left))
+returns-2 c =
+    let at-is-light : tie.After-is-light = search in
+    let at-kind-of : tie.After-kind-of = search in
+    rw (sym (at-is-light .is-light .ensures ∙ ap light (at-kind-of .kind-of .ensures)) ∙ c .if1 .left)
 
 pub is-barred-21-spec : {M : Type 1} → statement M
-is-barred-21-spec = tie.close (tie.spec is-hidden-within-requires returns returns-2)
+is-barred-21-spec = tie.close (tie.spec kind-of-requires is-light-requires is-hidden-within-requires returns returns-2)

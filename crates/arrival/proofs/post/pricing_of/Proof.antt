@@ -1,4 +1,3 @@
-use borrow.Author.Tests.{eq-eqb, ne-eqb}
 use borrow.Author.Needs.{needs}
 use Rattle.arrival.proofs.post.pricing_of.Statement.{statement}
 use Rattle.arrival.proofs.post.pricing_of.Tie as tie
@@ -7,13 +6,26 @@ is-sliding-requires : tie.Need-is-sliding-requires
 is-sliding-requires c κs = search needs
 
 returns : tie.Need-returns
-returns c = rw (← c .before .is-sliding .ensures, c .if1 .taken)
+returns c =
+    let at-is-sliding : tie.After-is-sliding = search in
+    rw (← at-is-sliding .is-sliding .ensures, c .if1 .taken)
+
+is-dark-requires : tie.Need-is-dark-requires
+is-dark-requires c κs = search needs
 
 returns-2 : tie.Need-returns-2
-returns-2 c = rw (← c .before .before .is-sliding .ensures, c .before .if1 .left, eq-eqb _ 6 (c .if2 .taken))
+returns-2 c =
+    let at-is-dark : tie.After-is-dark = search in
+    let at-if1 : tie.Else1 = search in
+    let at-is-sliding : tie.After-is-sliding = search in
+    rw (← at-is-sliding .is-sliding .ensures, at-if1 .if1 .left, ← at-is-dark .is-dark .ensures, c .if2 .taken)
 
 returns-3 : tie.Need-returns-3
-returns-3 c = rw (← c .before .before .is-sliding .ensures, c .before .if1 .left, ne-eqb _ 6 (c .if2 .left))
+returns-3 c =
+    let at-is-dark : tie.After-is-dark = search in
+    let at-if1 : tie.Else1 = search in
+    let at-is-sliding : tie.After-is-sliding = search in
+    rw (← at-is-sliding .is-sliding .ensures, at-if1 .if1 .left, ← at-is-dark .is-dark .ensures, c .if2 .left)
 
 pub pricing-of-spec : {M : Type 1} → statement M
-pricing-of-spec = tie.close (tie.spec is-sliding-requires returns returns-2 returns-3)
+pricing-of-spec = tie.close (tie.spec is-sliding-requires returns is-dark-requires returns-2 returns-3)

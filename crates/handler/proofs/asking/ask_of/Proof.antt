@@ -77,40 +77,64 @@ ask-for-requires-6 : tie.Need-ask-for-requires-6
 ask-for-requires-6 c κs = search needs
 
 returns : tie.Need-returns
-returns c = c .ask-to-enter .ensures ∙ sym (ap askOf (c .before .before .event .given .1))
+returns c =
+    let at-event : tie.After-event = search in
+    c .ask-to-enter .ensures ∙ sym (ap askOf (at-event .event .given .1))
 
 returns-2 : tie.Need-returns-2
-returns-2 c = c .ask-to-enter2 .ensures ∙ sym (ap askOf (c .before .before .event2 .given .1))
+returns-2 c =
+    let at-event2 : tie.After-event2 = search in
+    c .ask-to-enter2 .ensures ∙ sym (ap askOf (at-event2 .event2 .given .1))
 
 returns-3 : tie.Need-returns-3
-returns-3 c = c .ask-to-enter3 .ensures ∙ sym (ap askOf (c .before .before .event3 .given .1))
+returns-3 c =
+    let at-event3 : tie.After-event3 = search in
+    c .ask-to-enter3 .ensures ∙ sym (ap askOf (at-event3 .event3 .given .1))
 
 returns-4 : tie.Need-returns-4
-returns-4 c = c .ask-to-enter4 .ensures ∙ sym (ap askOf (c .before .before .event4 .given .1))
+returns-4 c =
+    let at-event4 : tie.After-event4 = search in
+    c .ask-to-enter4 .ensures ∙ sym (ap askOf (at-event4 .event4 .given .1))
 
 returns-5 : tie.Need-returns-5
-returns-5 c = c .ask-to-enter5 .ensures ∙ sym (ap askOf (c .before .before .event5 .given .1))
+returns-5 c =
+    let at-event5 : tie.After-event5 = search in
+    c .ask-to-enter5 .ensures ∙ sym (ap askOf (at-event5 .event5 .given .1))
 
 returns-6 : tie.Need-returns-6
-returns-6 c = c .ask-to-enter6 .ensures ∙ sym (ap askOf (c .before .before .event6 .given .1))
+returns-6 c =
+    let at-event6 : tie.After-event6 = search in
+    c .ask-to-enter6 .ensures ∙ sym (ap askOf (at-event6 .event6 .given .1))
 
 returns-7 : tie.Need-returns-7
-returns-7 c = c .ask-for .ensures ∙ sym (ap askOf (c .before .before .event7 .given .1))
+returns-7 c =
+    let at-event7 : tie.After-event7 = search in
+    c .ask-for .ensures ∙ sym (ap askOf (at-event7 .event7 .given .1))
 
 returns-8 : tie.Need-returns-8
-returns-8 c = c .ask-for2 .ensures ∙ sym (ap askOf (c .before .before .event8 .given .1))
+returns-8 c =
+    let at-event8 : tie.After-event8 = search in
+    c .ask-for2 .ensures ∙ sym (ap askOf (at-event8 .event8 .given .1))
 
 returns-9 : tie.Need-returns-9
-returns-9 c = c .ask-for3 .ensures ∙ sym (ap askOf (c .before .before .event9 .given .1))
+returns-9 c =
+    let at-event9 : tie.After-event9 = search in
+    c .ask-for3 .ensures ∙ sym (ap askOf (at-event9 .event9 .given .1))
 
 returns-10 : tie.Need-returns-10
-returns-10 c = c .ask-for4 .ensures ∙ sym (ap askOf (c .before .before .event10 .given .1))
+returns-10 c =
+    let at-event10 : tie.After-event10 = search in
+    c .ask-for4 .ensures ∙ sym (ap askOf (at-event10 .event10 .given .1))
 
 returns-11 : tie.Need-returns-11
-returns-11 c = c .ask-for5 .ensures ∙ sym (ap askOf (c .before .before .event11 .given .1))
+returns-11 c =
+    let at-event11 : tie.After-event11 = search in
+    c .ask-for5 .ensures ∙ sym (ap askOf (at-event11 .event11 .given .1))
 
 returns-12 : tie.Need-returns-12
-returns-12 c = c .ask-for6 .ensures ∙ sym (ap askOf (c .before .before .event12 .given .1))
+returns-12 c =
+    let at-event12 : tie.After-event12 = search in
+    c .ask-for6 .ensures ∙ sym (ap askOf (at-event12 .event12 .given .1))
 
 pub ask-of-spec : {M : Type 1} → statement M
 ask-of-spec =

@@ -13,22 +13,39 @@ is-blocking-requires : tie.Need-is-blocking-requires
 is-blocking-requires c κs = search needs
 
 act-requires : tie.Need-act-requires
-act-requires c κs = (c .before .before .before .before .pre .0, own-room (c .before .before .before .before .args .s) (c .before .before .before .before .args .a) (acts-accepted (c .before .before .before .before .pre .0)) _ (c .before .before .before .before .pre .1))
+act-requires c κs =
+    let start : tie.Start = search in
+    (start .pre .0, own-room (start .args .s) (start .args .a) (acts-accepted (start .pre .0)) _ (start .pre .1))
 
 terms-after-requires : tie.Need-terms-after-requires
-terms-after-requires c κs = facts (c .before .before .before .before .before .before .before .args .s) (c .before .before .before .before .before .before .before .args .a) (acts-accepted (c .before .before .before .before .before .before .before .pre .0)) .sound .most
+terms-after-requires c κs =
+    let start : tie.Start = search in
+    facts (start .args .s) (start .args .a) (acts-accepted (start .pre .0)) .sound .most
 
 settle-if-requires : tie.Need-settle-if-requires
-settle-if-requires c κs = settles-next (c .before .before .before .before .before .before .before .before .before .before .args .s) (c .before .before .before .before .before .before .before .before .before .before .args .a) (c .before .before .before .before .before .before .before .before .before .before .pre .0) (c .before .before .before .before .before .before .before .before .before .before .pre .1) (c .before .before .before .before .before .act .ensures) _ (c .before .before .terms-after .ensures)
+settle-if-requires c κs =
+    let at-terms-after : tie.After-terms-after = search in
+    let at-act : tie.After-act = search in
+    let start : tie.Start = search in
+    settles-next (start .args .s) (start .args .a) (start .pre .0) (start .pre .1) (at-act .act .ensures) _ (at-terms-after .terms-after .ensures)
 
 put-together-requires : tie.Need-put-together-requires
-put-together-requires c κs = record { maker = λ q. and-left _ _ (sym (c .before .before .before .before .before .before .before .before .before .before .before .is-blocking .ensures (entriesOf (c .before .before .before .before .before .before .before .before .before .before .before .before .before .args .s .book))) ∙ q); party = tests (c .before .before .before .before .before .before .before .before .before .before .before .before .before .args .s) (c .before .before .before .before .before .before .before .before .before .before .before .before .before .args .a) (acts-accepted (c .before .before .before .before .before .before .before .before .before .before .before .before .before .pre .0)) .party; blocks = c .before .before .before .before .before .before .before .before .before .before .before .before .before .pre .0 .whole .blocks }
+put-together-requires c κs =
+    let at-is-blocking : tie.After-is-blocking = search in
+    let start : tie.Start = search in
+    record { maker = λ q. and-left _ _ (sym (at-is-blocking .is-blocking .ensures (entriesOf (start .args .s .book))) ∙ q); party = tests (start .args .s) (start .args .a) (acts-accepted (start .pre .0)) .party; blocks = start .pre .0 .whole .blocks }
 
 same-length : tie.Need-same-length
 same-length c = search needs
 
 returns : tie.Need-returns
-returns c = accept-done (c .before .before .before .before .before .before .before .before .before .before .before .before .before .before .args .s) (c .before .before .before .before .before .before .before .before .before .before .before .before .before .before .args .a) (c .before .before .before .before .before .before .before .before .before .before .before .before .before .before .pre .0) (c .before .before .before .before .before .before .before .before .before .before .before .before .before .before .pre .1) (c .before .before .before .before .before .before .before .before .before .act .ensures) _ (c .before .before .before .before .before .before .terms-after .ensures) (c .before .before .before .settle-if .ensures) _ (c .before .before .before .before .before .before .before .before .before .before .before .before .is-blocking .ensures (entriesOf (c .before .before .before .before .before .before .before .before .before .before .before .before .before .before .args .s .book))) _ (c .put-together .ensures)
+returns c =
+    let at-settle-if : tie.After-settle-if = search in
+    let at-terms-after : tie.After-terms-after = search in
+    let at-act : tie.After-act = search in
+    let at-is-blocking : tie.After-is-blocking = search in
+    let start : tie.Start = search in
+    accept-done (start .args .s) (start .args .a) (start .pre .0) (start .pre .1) (at-act .act .ensures) _ (at-terms-after .terms-after .ensures) (at-settle-if .settle-if .ensures) _ (at-is-blocking .is-blocking .ensures (entriesOf (start .args .s .book))) _ (c .put-together .ensures)
 
 pub accept-spec : {M : Type 1} → statement M
 accept-spec =

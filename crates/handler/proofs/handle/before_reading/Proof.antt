@@ -17,9 +17,11 @@ first-of-requires c κs = search needs
 
 returns : tie.Need-returns
 returns c =
-    let s = c .before .before .before .args .series in
-    let space : ℕ = c .before .before .before .args .space in
-    let tested = c .before .before .check-series .ensures in
+    let at-check-series : tie.After-check-series = search in
+    let start : tie.Start = search in
+    let s = start .args .series in
+    let space : ℕ = start .args .space in
+    let tested = at-check-series .check-series .ensures in
     let number : _ ≡ beforeReading space (soundSeries s) =
     c .first-of .ensures ∙ ap (λ (b : Bool). firstOf (ltb space 31920) 10 (not b) 11) (tested .verdict) in
     record {

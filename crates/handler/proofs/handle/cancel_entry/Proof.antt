@@ -13,18 +13,21 @@ find-entry-requires c κs = search needs
 
 cut-rank-requires : tie.Need-cut-rank-requires
 cut-rank-requires c κs =
-    let s = c .before .before .before .before in
-    let l = entriesOf (s .args .b) in
-    rank-cuts (ownEntry (s .args .party) (s .args .entry)) (λ _. 0) (s .args .b) (s .pre .well) 28 (entryOf (s .args .party) (s .args .entry) l) _ (entry-tells l (s .args .party) (s .args .entry)) (c .before .before .find-entry .ensures) (s .pre .roomy)
+    let at-find-entry : tie.After-find-entry = search in
+    let start : tie.Start = search in
+    let l = entriesOf (start .args .b) in
+    rank-cuts (ownEntry (start .args .party) (start .args .entry)) (λ _. 0) (start .args .b) (start .pre .well) 28 (entryOf (start .args .party) (start .args .entry) l) _ (entry-tells l (start .args .party) (start .args .entry)) (at-find-entry .find-entry .ensures) (start .pre .roomy)
 
 same-length : tie.Need-same-length
 same-length c = search needs
 
 returns : tie.Need-returns
 returns c =
-    let s = c .before .before .before .before .before .before .before in
-    let l = entriesOf (s .args .b) in
-    staged-as (cut-rank (ownEntry (s .args .party) (s .args .entry)) (λ _. 0) (s .args .b) (s .pre .well) 28 (entryOf (s .args .party) (s .args .entry) l) _ (entry-tells l (s .args .party) (s .args .entry)) (c .before .before .before .before .before .find-entry .ensures)) (c .before .before .cut-rank .ensures)
+    let at-cut-rank : tie.After-cut-rank = search in
+    let at-find-entry : tie.After-find-entry = search in
+    let start : tie.Start = search in
+    let l = entriesOf (start .args .b) in
+    staged-as (cut-rank (ownEntry (start .args .party) (start .args .entry)) (λ _. 0) (start .args .b) (start .pre .well) 28 (entryOf (start .args .party) (start .args .entry) l) _ (entry-tells l (start .args .party) (start .args .entry)) (at-find-entry .find-entry .ensures)) (at-cut-rank .cut-rank .ensures)
 
 pub cancel-entry-spec : {M : Type 1} → statement M
 cancel-entry-spec =

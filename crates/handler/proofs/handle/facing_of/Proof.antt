@@ -24,11 +24,16 @@ nearer-of-requires c κs = search needs
 
 returns : tie.Need-returns
 returns c =
-    let s : Bool = c .before .before .before .before .before .args .sell in
-    same-facing (c .before .price-faced .ensures)
+    let at-price-faced : tie.After-price-faced = search in
+    let at-away-of : tie.After-away-of = search in
+    let at-market-of : tie.After-market-of = search in
+    let at-price-shown : tie.After-price-shown = search in
+    let start : tie.Start = search in
+    let s : Bool = start .args .sell in
+    same-facing (at-price-faced .price-faced .ensures)
     (c .nearer-of .ensures
-    ∙ ap₂ (nearer s) (c .before .before .away-of .ensures ∙ ap (λ (k : Market). away k s) (c .before .before .before .market-of .ensures))
-    (c .before .before .before .before .price-shown .ensures))
+    ∙ ap₂ (nearer s) (at-away-of .away-of .ensures ∙ ap (λ (k : Market). away k s) (at-market-of .market-of .ensures))
+    (at-price-shown .price-shown .ensures))
 
 pub facing-of-spec : {M : Type 1} → statement M
 facing-of-spec =

@@ -12,7 +12,11 @@ refused-requires : tie.Need-refused-requires
 refused-requires c κs = search needs
 
 returns : tie.Need-returns
-returns c = returns-early (c .before .before .before .before .before .before .args .series) (c .before .before .before .before .before .before .args .message .now) (c .before .before .before .before .before .before .args .room .now) _ (c .before .before .before .before-reading .ensures) (c .before .if1 .taken) _ (c .refused .ensures)
+returns c =
+    let at-if1 : tie.Then1 = search in
+    let at-before-reading : tie.After-before-reading = search in
+    let start : tie.Start = search in
+    returns-early (start .args .series) (start .args .message .now) (start .args .room .now) _ (at-before-reading .before-reading .ensures) (at-if1 .if1 .taken) _ (c .refused .ensures)
 
 unpack-requires : tie.Need-unpack-requires
 unpack-requires c κs = search needs
@@ -27,16 +31,33 @@ refused-requires-2 : tie.Need-refused-requires-2
 refused-requires-2 c κs = search needs
 
 returns-2 : tie.Need-returns-2
-returns-2 c = returns-unread (c .before .before .before .before .before .before .before .before .before .args .series) (c .before .before .before .before .before .before .before .before .before .args .message .now) (c .before .before .before .before .before .before .before .before .before .args .room .now) _ (c .before .before .before .before .before .before .before-reading .ensures) (c .before .before .before .before .if1 .left) (was-nothing _ (sym (c .before .before .before .unpack .ensures .0) ∙ c .before .enum-told .given .1)) _ (c .refused2 .ensures)
+returns-2 c =
+    let at-enum-told : tie.After-enum-told = search in
+    let at-unpack : tie.After-unpack = search in
+    let at-if1 : tie.Else1 = search in
+    let at-before-reading : tie.After-before-reading = search in
+    let start : tie.Start = search in
+    returns-unread (start .args .series) (start .args .message .now) (start .args .room .now) _ (at-before-reading .before-reading .ensures) (at-if1 .if1 .left) (was-nothing _ (sym (at-unpack .unpack .ensures .0) ∙ at-enum-told .enum-told .given .1)) _ (c .refused2 .ensures)
 
 answer-event-requires : tie.Need-answer-event-requires
-answer-event-requires c κs = (c .before .before .before .before .before .before .before .before-reading .ensures .whole (c .before .before .before .before .before .if1 .left), admits-space (c .before .before .before .before .before .before .before .before .before .before .args .series) (c .before .before .before .before .before .before .before .before .before .before .args .message .now) (c .before .before .before .before .before .before .before .before .before .before .args .room .now) _ (c .before .before .before .before .before .before .before .before-reading .ensures) (c .before .before .before .before .before .if1 .left))
+answer-event-requires c κs =
+    let at-if1 : tie.Else1 = search in
+    let at-before-reading : tie.After-before-reading = search in
+    let start : tie.Start = search in
+    (at-before-reading .before-reading .ensures .whole (at-if1 .if1 .left), admits-space (start .args .series) (start .args .message .now) (start .args .room .now) _ (at-before-reading .before-reading .ensures) (at-if1 .if1 .left))
 
 same-length : tie.Need-same-length
 same-length c = search needs
 
 returns-3 : tie.Need-returns-3
-returns-3 c = c .before .before .answer-event .ensures ∙ returns-judged (c .before .before .before .before .before .before .before .before .before .before .before .before .before .args .series) (c .before .before .before .before .before .before .before .before .before .before .before .before .before .args .message .now) (c .before .before .before .before .before .before .before .before .before .before .before .before .before .args .room .now) _ (c .before .before .before .before .before .before .before .before .before .before .before-reading .ensures) (c .before .before .before .before .before .before .before .before .if1 .left) (c .before .before .before .before .before .event .given .0 .0) (was-message _ _ (sym (c .before .before .before .before .before .before .before .unpack .ensures .0) ∙ c .before .before .before .before .before .event .given .1))
+returns-3 c =
+    let at-answer-event : tie.After-answer-event = search in
+    let at-event : tie.After-event = search in
+    let at-unpack : tie.After-unpack = search in
+    let at-if1 : tie.Else1 = search in
+    let at-before-reading : tie.After-before-reading = search in
+    let start : tie.Start = search in
+    at-answer-event .answer-event .ensures ∙ returns-judged (start .args .series) (start .args .message .now) (start .args .room .now) _ (at-before-reading .before-reading .ensures) (at-if1 .if1 .left) (at-event .event .given .0 .0) (was-message _ _ (sym (at-unpack .unpack .ensures .0) ∙ at-event .event .given .1))
 
 pub handle-spec : {M : Type 1} → statement M
 handle-spec =

@@ -9,16 +9,25 @@ use Rattle.handler.proofs.handle.note_phase.Statement.{statement}
 use Rattle.handler.proofs.handle.note_phase.Tie as tie
 
 put-requires : tie.Need-put-requires
-put-requires c κs = roomy-first (Noted ∷ []) (sweep (c .before .before .before .args .phase) (entriesOf (c .before .before .before .args .b)) .records) (c .before .before .before .pre .roomy)
+put-requires c κs =
+    let start : tie.Start = search in
+    roomy-first (Noted ∷ []) (sweep (start .args .phase) (entriesOf (start .args .b)) .records) (start .pre .roomy)
 
 sweep-all-requires : tie.Need-sweep-all-requires
-sweep-all-requires c κs = record { well = c .before .before .before .before .before .before .before .before .pre .well; roomy = roomy-then (Noted ∷ []) (sweep (c .before .before .before .before .before .before .before .before .args .phase) (entriesOf (c .before .before .before .before .before .before .before .before .args .b)) .records) (c .before .before .before .before .before .before .before .before .pre .roomy) _ _ (c .before .before .before .before .put .ensures .bytes) (c .before .before .before .before .put .ensures .count) }
+sweep-all-requires c κs =
+    let at-put : tie.After-put = search in
+    let start : tie.Start = search in
+    record { well = start .pre .well; roomy = roomy-then (Noted ∷ []) (sweep (start .args .phase) (entriesOf (start .args .b)) .records) (start .pre .roomy) _ _ (at-put .put .ensures .bytes) (at-put .put .ensures .count) }
 
 same-length : tie.Need-same-length
 same-length c = search needs
 
 returns : tie.Need-returns
-returns c = staged-then (told-staged (c .before .before .before .before .before .before .before .before .before .before .before .args .b) (c .before .before .before .before .before .before .before .before .before .before .before .pre .well) (c .before .before .before .before .before .before .before .put .ensures)) (sweep (c .before .before .before .before .before .before .before .before .before .before .before .args .phase)) (c .before .before .sweep-all .ensures)
+returns c =
+    let at-sweep-all : tie.After-sweep-all = search in
+    let at-put : tie.After-put = search in
+    let start : tie.Start = search in
+    staged-then (told-staged (start .args .b) (start .pre .well) (at-put .put .ensures)) (sweep (start .args .phase)) (at-sweep-all .sweep-all .ensures)
 
 pub note-phase-spec : {M : Type 1} → statement M
 note-phase-spec =

@@ -14,16 +14,27 @@ market-of-requires : tie.Need-market-of-requires
 market-of-requires c κs = search needs
 
 settle-open-requires : tie.Need-settle-open-requires
-settle-open-requires c κs = settle-open (c .before .before .before .before .before .before .pre) (c .before .before .before .if1 .taken) _ (c .before .before .market-of .ensures)
+settle-open-requires c κs =
+    let at-market-of : tie.After-market-of = search in
+    let at-if1 : tie.Then1 = search in
+    let start : tie.Start = search in
+    settle-open (start .pre) (at-if1 .if1 .taken) _ (at-market-of .market-of .ensures)
 
 same-length : tie.Need-same-length
 same-length c = search needs
 
 returns : tie.Need-returns
-returns c = staged-as (ap (λ (k : Market). settled k (entriesOf (c .before .before .before .before .before .before .before .before .before .args .b))) (c .before .before .before .before .before .market-of .ensures) ∙ sym (settled-open (c .before .before .before .before .before .before .before .before .before .args .t) (entriesOf (c .before .before .before .before .before .before .before .before .before .args .b)) (eq-eqb _ _ (c .before .before .before .before .before .before .if1 .taken)))) (c .before .before .settle-open .ensures)
+returns c =
+    let at-settle-open : tie.After-settle-open = search in
+    let at-market-of : tie.After-market-of = search in
+    let at-if1 : tie.Then1 = search in
+    let start : tie.Start = search in
+    staged-as (ap (λ (k : Market). settled k (entriesOf (start .args .b))) (at-market-of .market-of .ensures) ∙ sym (settled-open (start .args .t) (entriesOf (start .args .b)) (eq-eqb _ _ (at-if1 .if1 .taken)))) (at-settle-open .settle-open .ensures)
 
 returns-2 : tie.Need-returns-2
-returns-2 c = staged-as (sym (settled-shut (c .before .before .before .args .t) (entriesOf (c .before .before .before .args .b)) (ne-eqb _ _ (c .if1 .left)))) (staged-none (c .before .before .before .args .b) (c .before .before .before .args .room .now) (c .before .before .before .args .n .now) (c .before .before .before .pre .well))
+returns-2 c =
+    let start : tie.Start = search in
+    staged-as (sym (settled-shut (start .args .t) (entriesOf (start .args .b)) (ne-eqb _ _ (c .if1 .left)))) (staged-none (start .args .b) (start .args .room .now) (start .args .n .now) (start .pre .well))
 
 pub settle-if-spec : {M : Type 1} → statement M
 settle-if-spec =

@@ -7,7 +7,9 @@ use Rattle.handler.proofs.handle.settle_open.Statement.{statement}
 use Rattle.handler.proofs.handle.settle_open.Tie as tie
 
 is-stirring-requires : tie.Need-is-stirring-requires
-is-stirring-requires c κs = record { well = c .before .pre .well; sound = c .before .pre .sound }
+is-stirring-requires c κs =
+    let start : tie.Start = search in
+    record { well = start .pre .well; sound = start .pre .sound }
 
 settle-requires : tie.Need-settle-requires
 settle-requires c κs = search needs
@@ -20,10 +22,12 @@ returns c = search needs
 
 returns-2 : tie.Need-returns-2
 returns-2 c =
-    let a = c .before .before .before .args in
-    let p = c .before .before .before .pre in
+    let at-is-stirring : tie.After-is-stirring = search in
+    let start : tie.Start = search in
+    let a = start .args in
+    let p = start .pre in
     let so = sound-for (p .sound) in
-    staged-as (sym (quiet (so .0) (so .1) (sym (c .before .is-stirring .ensures) ∙ c .if1 .left))) (staged-none (a .b) (a .room .now) (a .n .now) (p .well))
+    staged-as (sym (quiet (so .0) (so .1) (sym (at-is-stirring .is-stirring .ensures) ∙ c .if1 .left))) (staged-none (a .b) (a .room .now) (a .n .now) (p .well))
 
 pub settle-open-spec : {M : Type 1} → statement M
 settle-open-spec =

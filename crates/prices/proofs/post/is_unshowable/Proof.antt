@@ -1,4 +1,3 @@
-use Rattle.prices.specs.Step.{pastLast}
 use borrow.Author.Needs.{needs}
 use Rattle.prices.proofs.post.is_unshowable.Statement.{statement}
 use Rattle.prices.proofs.post.is_unshowable.Tie as tie
@@ -6,12 +5,14 @@ use Rattle.prices.proofs.post.is_unshowable.Tie as tie
 is-sliding-requires : tie.Need-is-sliding-requires
 is-sliding-requires c κs = search needs
 
-is-past-last-requires : tie.Need-is-past-last-requires
-is-past-last-requires c κs = search needs
+last-price-requires : tie.Need-last-price-requires
+last-price-requires c κs = search needs
+
+is-reaching-requires : tie.Need-is-reaching-requires
+is-reaching-requires c κs = search needs
 
 returns : tie.Need-returns
-unfolding pastLast
-returns c = rw (c .is-past-last .ensures, c .before .is-sliding .ensures)
+returns c = rw (c .is-reaching .ensures, c .before .last-price .ensures, c .before .before .is-sliding .ensures)
 
 pub is-unshowable-spec : {M : Type 1} → statement M
-is-unshowable-spec = tie.close (tie.spec is-sliding-requires is-past-last-requires returns)
+is-unshowable-spec = tie.close (tie.spec is-sliding-requires last-price-requires is-reaching-requires returns)
