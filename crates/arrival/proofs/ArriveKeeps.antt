@@ -18,7 +18,7 @@ use Rattle.packing.specs.declared.report.Report.{Report}
 use Rattle.packing.specs.Room.{AllPack}
 use Rattle.packing.proofs.ReportLaws.{rejected-packs, cancelled-packs}
 use Rattle.book.specs.declared.Entry.{Entry}
-use Rattle.book.specs.Entries.{quote}
+use Rattle.book.specs.Entries.{quote, lastNumber}
 use Rattle.book.specs.Change.{post}
 use Rattle.soundness_theory.specs.Sound.{soundEntries}
 use Rattle.soundness_theory.proofs.Facts.{EntryFacts, Clear, PairFacts, Sound}
@@ -69,7 +69,7 @@ module _ {m top most : ℕ} (l : List Entry) (so : Sound m top l) (size : length
   unfolding still
   stage-still n = record { sound = so; size = size; few = omega arith; fit = tt }
 
-  stage-cut : (why party : ℕ) (s : Bool) → why ≤ 31 → top ≤ 1000000 → Stage m top most 1 (cutQuote why party s l)
+  stage-cut : (why party : ℕ) (s : Bool) → why ≤ 31 → top ≤ lastNumber → Stage m top most 1 (cutQuote why party s l)
   stage-cut why party s h low = record {
     sound = quote-sound why party s l so;
     size = omega (arith, quote-length why party s l);
@@ -218,7 +218,7 @@ module _ (t : Terms) (e : Entry) (l : List Entry) (a : Arriving t e l) where
       so : Sound (t .m) (t .given + 1) l
       so = sound-higher (facts .1) (t .given + 1) (omega arith)
 
-      low : t .given + 1 ≤ 1000000
+      low : t .given + 1 ≤ lastNumber
       low = omega (arith, a .fresh)
 
       first : Stage (t .m) (t .given + 1) 64 1 (reported (rejected why e) l)

@@ -19,7 +19,7 @@ use Rattle.lists.proofs.ChooseLaws.{Tells}
 use Rattle.packing.specs.Room.{AllPack}
 use Rattle.packing.proofs.ReportLaws.{cancelled-packs}
 use Rattle.book.specs.declared.Entry.{Entry}
-use Rattle.book.specs.Entries.{quote, ownEntry, quoteOf}
+use Rattle.book.specs.Entries.{quote, ownEntry, quoteOf, lastNumber}
 use Rattle.book.specs.Look.{entryOf, quoteIn}
 use Rattle.book.proofs.LookLaws.{entry-tells, quote-tells}
 use Rattle.soundness_theory.proofs.Facts.{EntryFacts, PairFacts, Sound}
@@ -51,7 +51,7 @@ module _ (why : ℕ) (l : List Entry) where
     cut-length nowhere c = omega arith
     cut-length (found i e) c = omega (arith, length-without i l (at-inside l i e (c .there)))
 
-    pub cut-packs : {m top : ℕ} (f : Found Entry) → Tells test key l f → why ≤ 31 → top ≤ 1000000 → Sound m top l → AllPack (cut why l f .records)
+    pub cut-packs : {m top : ℕ} (f : Found Entry) → Tells test key l f → why ≤ 31 → top ≤ lastNumber → Sound m top l → AllPack (cut why l f .records)
     unfolding cut still
     cut-packs nowhere c h low so = tt
     cut-packs (found i e) c h low so =
@@ -98,7 +98,7 @@ module _ (why party : ℕ) (s : Bool) (l : List Entry) where
     pub quote-sound : Sound m top (cutQuote why party s l .final)
     quote-sound = cut-sound why l (quoteIn party s l) so
 
-    pub quote-packs : why ≤ 31 → top ≤ 1000000 → AllPack (cutQuote why party s l .records)
+    pub quote-packs : why ≤ 31 → top ≤ lastNumber → AllPack (cutQuote why party s l .records)
     quote-packs h low = cut-packs why l (quoteOf party s) (λ _. 0) (quoteIn party s l) (quote-tells l party s) h low so
 
     -- A QUOTE THAT IS CUT IS GONE: "one quote at most per maker and side"
@@ -123,13 +123,13 @@ module _ (party : ℕ) (l : List Entry) {m top : ℕ} (so : Sound m top l) where
   pub cancel-entry-sound : (number : ℕ) → Sound m top (cancelEntry party number l .final)
   cancel-entry-sound number = cut-sound 28 l (entryOf party number l) so
 
-  pub cancel-entry-packs : (number : ℕ) → top ≤ 1000000 → AllPack (cancelEntry party number l .records)
+  pub cancel-entry-packs : (number : ℕ) → top ≤ lastNumber → AllPack (cancelEntry party number l .records)
   cancel-entry-packs number low = cut-packs 28 l (ownEntry party number) (λ _. 0) (entryOf party number l) (entry-tells l party number) (omega arith) low so
 
   pub cancel-quote-sound : (s : Bool) → Sound m top (cancelQuote party s l .final)
   cancel-quote-sound s = quote-sound 28 party s l so
 
-  pub cancel-quote-packs : (s : Bool) → top ≤ 1000000 → AllPack (cancelQuote party s l .records)
+  pub cancel-quote-packs : (s : Bool) → top ≤ lastNumber → AllPack (cancelQuote party s l .records)
   cancel-quote-packs s low = quote-packs 28 party s l so (omega arith) low
 
 pub cancel-entry-few : (party number : ℕ) (l : List Entry) → length (cancelEntry party number l .records) ≤ 1

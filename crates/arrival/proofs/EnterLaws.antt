@@ -10,7 +10,7 @@ use borrow.Author.Tests.{eqb-true}
 use Rattle.prices.specs.declared.Market.{Market}
 use Rattle.prices.specs.declared.Prices.{Prices}
 use Rattle.prices.specs.Side.{away}
-use Rattle.prices.specs.Step.{mpv, noneOrLegal}
+use Rattle.prices.specs.Step.{mpv, noneOrLegal, topPrice}
 use Rattle.kinds.specs.Kinds.{sliding, minds}
 use Rattle.prices.specs.Aims.{aims, Bounds}
 use Rattle.prices.specs.Protect.{Cents}
@@ -83,10 +83,10 @@ prices-known {t} {e} {b} {c} p = ap (λ (x : Prices). cond (sliding (e .kind)) x
     go true q = ap to (p .known q)
     go false q = unminded (t .m) (e .kind) (e .sell) (e .limit) (away (marketOf t) (e .sell)) c (contra (e .sell) (entriesOf b)) q
 
-pub given-high : {m p : ℕ} → NoneOrLegal m p → p ≤ 100000
+pub given-high : {m p : ℕ} → NoneOrLegal m p → p ≤ topPrice
 given-high {m} {p} g = pick (eqb p 0) refl
   where
-    pick : (b : Bool) → eqb p 0 ≡ b → p ≤ 100000
+    pick : (b : Bool) → eqb p 0 ≡ b → p ≤ topPrice
     pick true q = omega (arith, eqb-true p 0 q)
     pick false q = g .legal q .high
 

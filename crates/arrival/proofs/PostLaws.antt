@@ -12,7 +12,7 @@ use borrow.Author.Tests.{eqb-true, eqb-false}
 use Rattle.prices.specs.declared.Prices.{Prices}
 use Rattle.prices.specs.declared.Market.{Market}
 use Rattle.prices.specs.Side.{away, meek, reaches}
-use Rattle.prices.specs.Step.{lastPrice}
+use Rattle.prices.specs.Step.{lastPrice, topPrice}
 use Rattle.kinds.specs.Kinds.{sliding, minds, dark, light}
 use Rattle.kinds.proofs.KindLaws.{rigid-takes, sliding-heavy}
 use Rattle.prices.specs.Aims.{minded, upTo, shortOf, aimWorking, aims}
@@ -30,7 +30,7 @@ use Rattle.packing.proofs.ReportLaws.{rested-packs}
 use Rattle.book.specs.declared.Entry.{Entry}
 use Rattle.book.specs.declared.Pricing.{Pricing}
 use Rattle.book.specs.declared.Pricing.the-variants.{Fixed, Dark, Sliding}
-use Rattle.book.specs.Entries.{shownAs, display, displayed, against}
+use Rattle.book.specs.Entries.{shownAs, display, displayed, against, lastNumber}
 use Rattle.book.specs.Look.{eligible, contra, hidden, hiddenWithin}
 use Rattle.soundness_theory.proofs.Facts.{PricedAs, EntryFacts, Clear, Sound}
 use Rattle.soundness_theory.proofs.FrontLaws.{given-contra}
@@ -178,15 +178,15 @@ module _ (t : Terms) (e : Entry) (l : List Entry) (left top : ℕ) (mk : MarketF
 
 -- ---- its report packs ----
 
-shown-high : {m top : ℕ} (x : Entry) → EntryFacts m top x → display x ≤ 100000
+shown-high : {m top : ℕ} (x : Entry) → EntryFacts m top x → display x ≤ topPrice
 shown-high {m} x f = go (x .pricing) (f .prices)
   where
-    go : (p : Pricing) → PricedAs m (x .kind) (x .sell) (x .limit) (x .working) p → shownAs (x .limit) p ≤ 100000
+    go : (p : Pricing) → PricedAs m (x .kind) (x .sell) (x .limit) (x .working) p → shownAs (x .limit) p ≤ topPrice
     go Fixed g = f .limit .high
     go Dark g = omega arith
     go (Sliding d) g = g .slides .shown .high
 
-pub rested-fits : {m top : ℕ} (x : Entry) → top ≤ 1000000 → EntryFacts m top x → Packs (rested x)
+pub rested-fits : {m top : ℕ} (x : Entry) → top ≤ lastNumber → EntryFacts m top x → Packs (rested x)
 rested-fits x low f =
     rested-packs (x .sell) (x .party) (x .number) (x .quantity) (omega (arith, f .party-high)) (omega (arith, f .given)) (omega (arith, f .most))
     (display x) (x .working) (omega (arith, shown-high x f)) (omega (arith, f .works .high))

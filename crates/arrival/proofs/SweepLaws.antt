@@ -19,7 +19,7 @@ use Rattle.packing.specs.declared.report.Report.the-variants.{Noted, Rejected, 
 use Rattle.packing.specs.Room.{AllPack}
 use Rattle.packing.proofs.ReportLaws.{cancelled-packs}
 use Rattle.book.specs.declared.Entry.{Entry}
-use Rattle.book.specs.Entries.{quote}
+use Rattle.book.specs.Entries.{quote, lastNumber}
 use Rattle.book.specs.Look.{lowest}
 use Rattle.book.proofs.LookLaws.{lowest-tells, number, First}
 use Rattle.soundness_theory.proofs.Facts.{EntryFacts, Sound}
@@ -213,7 +213,7 @@ module _ (phase : ℕ) (l : List Entry) {m top : ℕ} (so : Sound m top l) where
   pub sweep-rises : Rising (sweep phase l .records)
   sweep-rises = rising phase so (sweep-run phase l)
 
-  pub sweep-packs : top ≤ 1000000 → AllPack (sweep phase l .records)
+  pub sweep-packs : top ≤ lastNumber → AllPack (sweep phase l .records)
   sweep-packs low =
       all-pack (sweep phase l .records)
       (complete-tells (Sound m top) Packs (λ s r t h g. sound-step (sweep-step phase s g) h) (λ s r t h g. fits (sweep-step phase s g) h) so (sweep-run phase l))

@@ -25,7 +25,7 @@ use Rattle.packing.specs.declared.report.Report.{Report}
 use Rattle.packing.specs.Room.{AllPack}
 use Rattle.packing.proofs.ReportLaws.{traded-packs}
 use Rattle.book.specs.declared.Entry.{Entry}
-use Rattle.book.specs.Entries.{lessened}
+use Rattle.book.specs.Entries.{lessened, lastNumber}
 use Rattle.book.specs.Change.{hit}
 use Rattle.book.specs.Look.{eligible, bestContra}
 use Rattle.book.proofs.LookLaws.{BestContra, ContraTells, contra-tells}
@@ -171,7 +171,7 @@ take-sound {m} {top} cap e t so =
 
 -- ---- each report packs ----
 
-pub take-packs : {m top : ℕ} (cap : ℕ) (e : Entry) (t : Taking) → top ≤ 1000000 → e .party ≤ 99 → e .number ≤ 1000000 → Sound m top (t .book)
+pub take-packs : {m top : ℕ} (cap : ℕ) (e : Entry) (t : Taking) → top ≤ lastNumber → e .party ≤ 99 → e .number ≤ lastNumber → Sound m top (t .book)
     → AllPack (taken cap e t .records)
 take-packs {m} {top} cap e t low party number so =
     all-pack (taken cap e t .records)
@@ -310,7 +310,7 @@ module _ (k : Market) (e : Entry) (l : List Entry) where
         took-either (λ (x : Ran Taking Report). Sound m top (x .final .book)) (λ _. so)
         (λ _. take-sound (bound k e) e (record { left = e .quantity; book = l }) so)
 
-    pub took-packs : top ≤ 1000000 → e .party ≤ 99 → e .number ≤ 1000000 → AllPack (took k e l .records)
+    pub took-packs : top ≤ lastNumber → e .party ≤ 99 → e .number ≤ lastNumber → AllPack (took k e l .records)
     unfolding still
     took-packs low party number =
         took-either (λ (x : Ran Taking Report). AllPack (x .records)) (λ _. tt)

@@ -17,7 +17,7 @@ use Rattle.packing.specs.Room.{written}
 use Rattle.book.specs.declared.Entry.{Entry}
 use Rattle.book.specs.declared.Book.{Book}
 use Rattle.book.specs.Shape.{entriesOf, bookOf, WellFormed}
-use Rattle.book.specs.Entries.{quote}
+use Rattle.book.specs.Entries.{quote, lastNumber}
 use Rattle.book.specs.Look.{contra, national}
 use Rattle.soundness_theory.specs.Sound.{soundEntries}
 use Rattle.soundness_theory.specs.SoundMarket.{soundMarket}
@@ -34,9 +34,9 @@ pub record Arriving (t : Terms) (e : Entry) (l : List Entry) : Type 0 where
   pub market : soundMarket (marketOf t) ≡ true
   pub entries : soundEntries (t .m) (t .given) l ≡ true
   pub steps : t .k ≤ 100
-  -- the next number, of which there are 1,000,000
+  -- the next number, if there is one
   pub number : e .number ≡ t .given + 1
-  pub fresh : t .given < 1000000
+  pub fresh : t .given < lastNumber
   pub entering : enters (e .kind) ≡ true
   pub party-low : 1 ≤ e .party
   pub party-high : e .party ≤ 99

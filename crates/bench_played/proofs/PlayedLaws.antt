@@ -11,6 +11,7 @@ use lib.Seq.{take-all}
 use borrow.Author.Tests.{le-leb, lt-leb, leb-true, leb-false}
 use Rattle.lists.proofs.Bools.{and-left, and-right}
 use Rattle.packing.specs.declared.setup.Setup.{Setup}
+use Rattle.packing.specs.Room.{roomSize, mostReports}
 use Rattle.series.specs.declared.Series.{Series}
 use Rattle.series.specs.Series.{opened}
 use Rattle.handler.specs.Handle.{handled, handledAt}
@@ -19,31 +20,31 @@ use Rattle.handler.proofs.Demands.{room-enough}
 use Rattle.bench_played.specs.Played.{goesOn, Turned, playedOn, played, playedBy}
 
 -- no message has more than 2,280 reports, refused or not
-pub count-few : (s : Series) (message room : List ℕ) → handled s message room .answer .count ≤ 2280
+pub count-few : (s : Series) (message room : List ℕ) → handled s message room .answer .count ≤ mostReports
 count-few s message room = go (handled s message room .answer .refusal) refl
   where
-    go : (n : ℕ) → handled s message room .answer .refusal ≡ n → handled s message room .answer .count ≤ 2280
+    go : (n : ℕ) → handled s message room .answer .refusal ≡ n → handled s message room .answer .count ≤ mostReports
     go zero h = room-enough s message room h
     go (suc n) h = omega (arith, refusals-keep s message room (λ z. omega (arith, h, z)) .count)
 
 -- the test of the loop
 pub goes-not : (long at size used : ℕ) → long < at + 11 → goesOn long at size used ≡ false
-goes-not long at size used h = ap (λ (b : Bool). b && leb (used + 31920) size) (lt-leb (at + 11) long h)
+goes-not long at size used h = ap (λ (b : Bool). b && leb (used + roomSize) size) (lt-leb (at + 11) long h)
 
-pub goes-if : (long at size used : ℕ) → at + 11 ≤ long → goesOn long at size used ≡ leb (used + 31920) size
-goes-if long at size used h = ap (λ (b : Bool). b && leb (used + 31920) size) (le-leb (at + 11) long h)
+pub goes-if : (long at size used : ℕ) → at + 11 ≤ long → goesOn long at size used ≡ leb (used + roomSize) size
+goes-if long at size used h = ap (λ (b : Bool). b && leb (used + roomSize) size) (le-leb (at + 11) long h)
 
-pub room-left : (size used : ℕ) → used ≤ size → leb 31920 (size - used) ≡ leb (used + 31920) size
-room-left size used h = by (leb (used + 31920) size) refl
+pub room-left : (size used : ℕ) → used ≤ size → leb roomSize (size - used) ≡ leb (used + roomSize) size
+room-left size used h = by (leb (used + roomSize) size) refl
   where
-    by : (b : Bool) → leb (used + 31920) size ≡ b → leb 31920 (size - used) ≡ b
-    by true e = le-leb 31920 (size - used) (omega (arith, leb-true (used + 31920) size e))
-    by false e = lt-leb 31920 (size - used) (omega (arith, leb-false (used + 31920) size e))
+    by : (b : Bool) → leb (used + roomSize) size ≡ b → leb roomSize (size - used) ≡ b
+    by true e = le-leb roomSize (size - used) (omega (arith, leb-true (used + roomSize) size e))
+    by false e = lt-leb roomSize (size - used) (omega (arith, leb-false (used + roomSize) size e))
 
-pub goes-both : (long at size used : ℕ) → goesOn long at size used ≡ true → (at + 11 ≤ long) × (used + 31920 ≤ size)
+pub goes-both : (long at size used : ℕ) → goesOn long at size used ≡ true → (at + 11 ≤ long) × (used + roomSize ≤ size)
 goes-both long at size used h = (
-  leb-true (at + 11) long (and-left (leb (at + 11) long) (leb (used + 31920) size) h),
-  leb-true (used + 31920) size (and-right (leb (at + 11) long) (leb (used + 31920) size) h),
+  leb-true (at + 11) long (and-left (leb (at + 11) long) (leb (used + roomSize) size) h),
+  leb-true (used + roomSize) size (and-right (leb (at + 11) long) (leb (used + roomSize) size) h),
 )
 
 -- WHAT IS LEFT TO PLAY from here is what was to play from the start
@@ -72,7 +73,7 @@ module _ {start s : Series} {run out₀ out : List ℕ} {at used : ℕ} (p : Pla
   unfolding playedOn
   goes {s′} {out′} {used′} h t k = by (p .left) (p .same) (p .enough)
     where
-      b : (at + 11 ≤ length run) × (used + 31920 ≤ length out)
+      b : (at + 11 ≤ length run) × (used + roomSize ≤ length out)
       b = goes-both (length run) at (length out) used h
 
       by : (n : ℕ) → playedOn n s run at out used ≡ played start run out₀ → length run ≤ at + n → Playing start run out₀ s′ (at + 11) out′ used′

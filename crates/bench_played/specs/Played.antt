@@ -9,13 +9,14 @@ use lib.ListN.{length, take, drop}
 use Rattle.packing.specs.declared.setup.Setup.{Setup}
 use Rattle.packing.specs.Codec.{unpackOf}
 use Rattle.packing.specs.Setup.{setups}
+use Rattle.packing.specs.Room.{roomSize}
 use Rattle.series.specs.declared.Series.{Series}
 use Rattle.series.specs.Series.{newSeries}
 use Rattle.handler.specs.Handle.{Handled, handledAt}
 
 -- a whole message stands at `at`, and behind `used` there is room for the reports of any message
 abbrev pub goesOn : ℕ → ℕ → ℕ → ℕ → Bool
-goesOn long at size used = leb (at + 11) long && leb (used + 31920) size
+goesOn long at size used = leb (at + 11) long && leb (used + roomSize) size
 
 -- where a message's reports end, that begin at `used`
 abbrev pub endOf : ℕ → Handled → ℕ

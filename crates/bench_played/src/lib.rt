@@ -1,11 +1,13 @@
 // A run of messages played one after the other, each into what is left of one lent room: what the measurements call.
 use handler::handle::handle_at;
+use packing::room::ROOM;
 use series::Series;
 use series::open::open_series;
 ghost use mathlib.Core.Path.{_≡_};
 ghost use lib.ListN.{length};
 ghost use Prim.Native.Nat.{_+_, _*_, _≤_};
 ghost use Rattle.bench_played.specs.Played.{goesOn, Turned, played, playedFrom};
+ghost use Rattle.packing.specs.Room.{roomSize, mostReports};
 
 // Whether a whole message stands at `at`, and there is room behind `used` for its reports.
 fn is_next(long: usize, at: usize, size: usize, used: usize) -> bool
@@ -15,7 +17,7 @@ fn is_next(long: usize, at: usize, size: usize, used: usize) -> bool
     if long - at < 11 {
         return false;
     }
-    31920 <= size - used
+    ROOM <= size - used
 }
 
 // The series after a message, and where what was written ends.
@@ -26,7 +28,7 @@ struct Next {
 
 // Where reports end that begin at `used`.
 fn end_of(used: usize, count: usize, size: usize) -> usize
-    requires { ⌜ (count ≤ 2280) × (used + 31920 ≤ size) ⌝ }
+    requires { ⌜ (count ≤ mostReports) × (used + roomSize ≤ size) ⌝ }
     ensures { λ r. ⌜ r ≡ used + 14 * count ⌝ }
 {
     used + 14 * count
@@ -34,7 +36,7 @@ fn end_of(used: usize, count: usize, size: usize) -> usize
 
 // One message: its reports from `used` on.
 fn turn(series: Series, run: &[u8], at: usize, out: &mut [u8], used: usize) -> Next
-    requires { ⌜ used + 31920 ≤ length (now out) ⌝ }
+    requires { ⌜ used + roomSize ≤ length (now out) ⌝ }
     ensures { λ r. ⌜ Turned series (now (run .entry)) at (now (out .entry)) used (r .series) (r .used) (now (out .exit)) ⌝ }
 {
     let size = out.len();

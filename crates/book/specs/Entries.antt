@@ -9,6 +9,10 @@ use Rattle.book.specs.declared.Entry.{Entry}
 use Rattle.book.specs.declared.Pricing.{Pricing}
 use Rattle.book.specs.declared.Pricing.the-variants.{Fixed, Dark, Sliding}
 
+-- "Entry numbers run 1 to 1,000,000"
+abbrev pub lastNumber : ℕ
+lastNumber = 1000000
+
 -- the display price; "a report shows display 0 for a dark entry"
 abbrev pub shownAs : ℕ → Pricing → ℕ
 shownAs limit Fixed = limit

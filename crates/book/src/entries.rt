@@ -6,6 +6,9 @@ ghost use mathlib.Core.Path.{_≡_};
 ghost use Rattle.book.specs.Entries.{display, displayed, quote, against, ownEntry, quoteOf, priced};
 ghost use Rattle.book.specs.Shape.{zeroEntry};
 
+// The last entry number that is given.
+pub const LAST_NUMBER: u32 = 1000000;
+
 // What stands in an unused place.
 pub fn zero_entry() -> Entry
     ensures { λ r. ⌜ r ≡ zeroEntry ⌝ }

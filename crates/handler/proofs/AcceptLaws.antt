@@ -10,6 +10,7 @@ use Rattle.lists.specs.Run.{Ran}
 use Rattle.prices.specs.declared.Market.{Market}
 use Rattle.packing.specs.declared.report.Report.{Report}
 use Rattle.packing.specs.declared.report.Report.the-variants.{Noted}
+use Rattle.packing.specs.Room.{roomSize}
 use Rattle.book.specs.declared.Entry.{Entry}
 use Rattle.book.specs.declared.Book.{Book}
 use Rattle.book.specs.Shape.{entriesOf, WellFormed}
@@ -40,7 +41,7 @@ settle-open {t} {b} {room} {n} x p k q =
     subst (λ (y : Market). Settleable y b room n) (sym q)
     (record { well = x .well; sound = x .sound; roomy = roomy-as (ap (λ (y : Ran (List Entry) Report). y .records) (settled-open t (entriesOf b) (eq-eqb (t .phase) 1 p))) (x .roomy) })
 
-module _ (s : Series) {check : Check} (a : Ask) (x : Acts s check a) {room : List ℕ} (space : 31920 ≤ length room) {b : Book} {room′ : List ℕ} {n′ : ℕ}
+module _ (s : Series) {check : Check} (a : Ask) (x : Acts s check a) {room : List ℕ} (space : roomSize ≤ length room) {b : Book} {room′ : List ℕ} {n′ : ℕ}
     (first : Staged (ownPart (s .terms) a (entriesOf (s .book))) room 0 b room′ n′) (t : Terms) (e : t ≡ termsAfter (s .terms) a) where
   pub settles-next : SettlesIf t b room′ n′
   settles-next =

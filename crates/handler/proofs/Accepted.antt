@@ -15,10 +15,10 @@ use Rattle.lists.proofs.PlaceLaws.{length-none}
 use Rattle.lists.proofs.Bools.{clash}
 use Rattle.packing.specs.declared.report.Report.{Report}
 use Rattle.packing.specs.declared.report.Report.the-variants.{Noted}
-use Rattle.packing.specs.Room.{AllPack}
+use Rattle.packing.specs.Room.{AllPack, roomSize, mostReports}
 use Rattle.packing.proofs.ReportLaws.{noted-packs}
 use Rattle.book.specs.declared.Entry.{Entry}
-use Rattle.book.specs.Entries.{quote}
+use Rattle.book.specs.Entries.{quote, lastNumber}
 use Rattle.book.specs.Shape.{entriesOf}
 use Rattle.book.specs.Look.{entryOf}
 use Rattle.soundness_theory.specs.Sound.{soundEntries}
@@ -68,7 +68,7 @@ spared-length test (x ∷ l) = by (test x) (spared-length test l)
     by true h = omega arith
     by false h = omega arith
 
-module _ (m top phase : ℕ) (l : List Entry) (step : mpv m ≡ true) (low : top ≤ 1000000) (entries : soundEntries m top l ≡ true) (size : length l ≤ 64) where
+module _ (m top phase : ℕ) (l : List Entry) (step : mpv m ≡ true) (low : top ≤ lastNumber) (entries : soundEntries m top l ≡ true) (size : length l ≤ 64) where
   so : Sound m top l
   so = is-sound m top l step entries
 
@@ -179,7 +179,7 @@ module _ (s : Series) (a : Ask) (ok : Accepted s a) where
 
   -- ---- both together ----
 
-  pub done-part : Part (termsAfter (s .terms) a .m) (termsAfter (s .terms) a .given) (termsAfter (s .terms) a .phase) 2280 (done (s .terms) a (entriesOf (s .book)))
+  pub done-part : Part (termsAfter (s .terms) a .m) (termsAfter (s .terms) a .given) (termsAfter (s .terms) a .phase) mostReports (done (s .terms) a (entriesOf (s .book)))
   unfolding done
   done-part = record {
     sound = settle-part .sound;
@@ -203,7 +203,7 @@ module _ (s : Series) (a : Ask) (ok : Accepted s a) where
 
   -- ---- the room ----
 
-  module _ (room : List ℕ) (space : 31920 ≤ length room) where
+  module _ (room : List ℕ) (space : roomSize ≤ length room) where
     -- THE ROOM IS ENOUGH: for the whole, and for the message's own part
     pub accepted-room : Roomy room 0 (done (s .terms) a (entriesOf (s .book)) .records)
     accepted-room = record { space = omega (arith, done-part .few); fit = done-part .fit }

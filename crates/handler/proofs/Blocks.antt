@@ -14,6 +14,7 @@ use Rattle.lists.proofs.Bools.{clash}
 use Rattle.packing.specs.declared.message.Event.{Event}
 use Rattle.packing.specs.Codec.{unpackOf}
 use Rattle.packing.specs.Message.{messages}
+use Rattle.packing.specs.Room.{roomSize}
 use Rattle.book.specs.Shape.{entriesOf}
 use Rattle.arrival.specs.Arrive.{rejection, blocks}
 use Rattle.arrival.proofs.ReasonLaws.{rejection-among}
@@ -142,7 +143,7 @@ unfolding refusalOf
 six-first s a party price quantity opened q h = rw (party, price, quantity, opened, q, h) refl
 
 -- 6, "kinds 1-4, maker blocked": A BLOCKED MAKER'S QUOTE that passes the tests before, 10, 11 and 1 to 5, IS REFUSED WITH 6, and changes nothing
-pub blocked-refused : (s : Series) (message room : List ℕ) (e : Event) → 31920 ≤ length room → soundSeries s ≡ true → unpackOf messages message ≡ some e
+pub blocked-refused : (s : Series) (message room : List ℕ) (e : Event) → roomSize ≤ length room → soundSeries s ≡ true → unpackOf messages message ≡ some e
     → badParty (askOf e) ≡ false → badPrice (s .terms .m) (askOf e) ≡ false → badQuantity (askOf e) ≡ false → notOpen (s .terms .phase) (askOf e) ≡ false
     → quotes (askOf e .kind) ≡ true → isBlockedIn s (askOf e .party) ≡ true → handled s message room ≡ refused 6 s room
 blocked-refused s message room e space sound read party price quantity opened q h =

@@ -18,7 +18,7 @@ use Rattle.packing.specs.declared.message.Event.{Event}
 use Rattle.packing.specs.declared.report.Report.{Report}
 use Rattle.packing.specs.Codec.{unpackOf}
 use Rattle.packing.specs.Message.{messages, messageAt}
-use Rattle.packing.specs.Room.{packedAll, written, readBack}
+use Rattle.packing.specs.Room.{packedAll, written, readBack, roomSize, mostReports}
 use Rattle.packing.proofs.CodecLaws.{unpack-other, unpack-short}
 use Rattle.packing.proofs.RoomLaws.{written-parts, reports-read-back}
 use Rattle.book.specs.declared.Entry.{Entry}
@@ -88,7 +88,7 @@ module _ (s : Series) (message room : List ℕ) (zero : handled s message room .
       ∙ ap (map some) (sym reports-are)
 
   -- "2,280 reports of 14": THE ROOM IS ENOUGH
-  pub room-enough : handled s message room .answer .count ≤ 2280
+  pub room-enough : handled s message room .answer .count ≤ mostReports
   room-enough = omega (arith, ap (λ (h : Handled). h .answer .count) answer-is, done-part s (askOf (way .event)) ok .few)
 
 -- ---- demand 3 ----
@@ -175,12 +175,12 @@ handled-at s front message rest room n =
     ap (λ (l : List ℕ). handled s l room) (ap (take 11) (drop-append-seam front (message ++ rest)) ∙ take-at message rest 11 n)
 
 -- "a place with fewer than 11 bytes from it to the run's end holds a message of wrong length"
-pub handled-at-end : (s : Series) (run : List ℕ) (at : ℕ) (room : List ℕ) → 31920 ≤ length room → soundSeries s ≡ true → length run < at + 11
+pub handled-at-end : (s : Series) (run : List ℕ) (at : ℕ) (room : List ℕ) → roomSize ≤ length room → soundSeries s ≡ true → length run < at + 11
     → handledAt s run at room ≡ refused 1 s room
 handled-at-end s run at room space sound h =
     handled-nothing s (messageAt run at) room space sound (unpack-short messages (drop at run) (simp length-drop (omega arith)))
 
 -- "length not 11"
-pub handled-length : (s : Series) (message room : List ℕ) → 31920 ≤ length room → soundSeries s ≡ true → (length message ≡ 11 → ⊥)
+pub handled-length : (s : Series) (message room : List ℕ) → roomSize ≤ length room → soundSeries s ≡ true → (length message ≡ 11 → ⊥)
     → handled s message room ≡ refused 1 s room
 handled-length s message room space sound h = handled-nothing s message room space sound (unpack-other messages message h)

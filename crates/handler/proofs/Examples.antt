@@ -38,7 +38,7 @@ use Rattle.handler.specs.Accept.{ownPart, termsAfter, done, comer}
 use Rattle.packing.specs.declared.message.Event.{Event}
 use Rattle.packing.specs.declared.report.Report.{Report}
 use Rattle.packing.specs.declared.report.Report.the-variants.{Rejected, Traded, Rested, Cancelled}
-use Rattle.packing.specs.Room.{readBack}
+use Rattle.packing.specs.Room.{readBack, roomSize}
 use Rattle.book.specs.declared.Entry.{Entry}
 use Rattle.book.specs.declared.Pricing.{Pricing}
 use Rattle.book.specs.declared.Pricing.the-variants.{Fixed, Dark, Sliding}
@@ -301,7 +301,7 @@ pub record Shows (r : Example) (h : Handled) : Type 0 where
   pub reports : readBack (h .answer .count) (h .room) ≡ map some (r .reports)
   pub after : entriesOf (h .answer .series .book) ≡ r .after
 
-row-shows : (r : Example) (room : List ℕ) → 31920 ≤ length room → outcome r ≡ expected r → Shows r (handled (before r) (r .message) room)
+row-shows : (r : Example) (room : List ℕ) → roomSize ≤ length room → outcome r ≡ expected r → Shows r (handled (before r) (r .message) room)
 row-shows r room space same = by (unpackOf messages (r .message)) refl same
   where
     by : (u : Option Event) → unpackOf messages (r .message) ≡ u → outcomeOf (before r) u ≡ expected r → Shows r (handled (before r) (r .message) room)
@@ -326,5 +326,5 @@ each-same (r ∷ l) h =
     let more : map outcome l ≡ map expected l = cc in
     (one, each-same l more)
 
-pub examples-handled : (room : List ℕ) → 31920 ≤ length room → All (λ (r : Example). Shows r (handled (before r) (r .message) room)) table
+pub examples-handled : (room : List ℕ) → roomSize ≤ length room → All (λ (r : Example). Shows r (handled (before r) (r .message) room)) table
 examples-handled room space = all-map (λ r same. row-shows r room space same) table (each-same table examples)

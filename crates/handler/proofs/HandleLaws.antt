@@ -17,10 +17,10 @@ use Rattle.book.specs.declared.Entry.{Entry}
 use Rattle.book.specs.Shape.{entriesOf}
 use Rattle.prices.specs.Side.{away}
 use Rattle.prices.specs.Protect.{bars24, bars25, bars26, firstBar, protection}
-use Rattle.book.specs.Entries.{quote, quoteOf}
+use Rattle.book.specs.Entries.{quote, quoteOf, lastNumber}
 use Rattle.book.specs.Look.{rankOf, quoteIn, national}
 use Rattle.terms.specs.declared.Terms.{Terms}
-use Rattle.terms.specs.Terms.{lastNumber, marketOf, guardOf}
+use Rattle.terms.specs.Terms.{marketOf, guardOf}
 use Rattle.arrival.specs.Arrive.{protectionFor, stopsAtOnce, orElse, rejection, bothQuotes, blocks}
 use Rattle.arrival.proofs.ReasonLaws.{at-once-among}
 use Rattle.arrival.specs.declared.Facing.{Facing}

@@ -18,7 +18,7 @@ use Rattle.lists.proofs.ChooseLaws.{Tells}
 use Rattle.packing.specs.declared.message.Event.{Event}
 use Rattle.packing.specs.declared.message.Event.the-variants.{Plain, Mmlo, Mmalo, Mmrp, Displayed, Dark, CancelEntry, CancelQuote, Away, Underlying, Phase, Enable}
 use Rattle.book.specs.declared.Entry.{Entry}
-use Rattle.book.specs.Entries.{quoteOf}
+use Rattle.book.specs.Entries.{quoteOf, lastNumber}
 use Rattle.book.specs.Shape.{entriesOf}
 use Rattle.book.specs.Look.{quoteIn}
 use Rattle.book.proofs.LookLaws.{quote-tells}
@@ -39,6 +39,7 @@ use Rattle.kinds.specs.Kinds.{enters, quotes, makers, carries}
 use Rattle.kinds.proofs.KindLaws.{enters-carries, quotes-makers, stays-out}
 use Rattle.handler.specs.Refuse.{badParty, badPrice, badQuantity, notOpen, isBlocked, isFull, isSpent, isMissing, refusalOf}
 use Rattle.handler.specs.Accept.{comer, termsAfter}
+use Rattle.terms.specs.Terms.{topUnderlying}
 
 -- ---- the tests that were passed ----
 
@@ -149,8 +150,8 @@ module _ (s : Series) (a : Ask) (ok : Accepted s a) where
   pub enters-open : enters (a .kind) ≡ true → s .terms .phase ≡ 1
   enters-open q = eqb-true (s .terms .phase) 1 (not-false (eqb (s .terms .phase) 1) (rw q at (tests .opened)))
 
-  pub enters-fresh : enters (a .kind) ≡ true → s .terms .given < 1000000
-  enters-fresh q = leb-false 1000000 (s .terms .given) (rw q at (tests .number))
+  pub enters-fresh : enters (a .kind) ≡ true → s .terms .given < lastNumber
+  enters-fresh q = leb-false lastNumber (s .terms .given) (rw q at (tests .number))
 
   -- THE TESTS THAT WERE PASSED ARE WHAT ARRIVAL ASKS
   pub accepted-arriving : enters (a .kind) ≡ true → Arriving (s .terms) (comer (s .terms .given) a) (entriesOf (s .book))
@@ -186,13 +187,13 @@ module _ (s : Series) (a : Ask) (ok : Accepted s a) where
         (λ q. given-price (s .terms .m) (a .price) (and-left (noneOrLegal (s .terms .m) (a .price)) (noneOrLegal (s .terms .m) (a .second)) (aways q))) (λ q. facts .sound .terms .bid);
     offer = cond-either (λ (n : ℕ). NoneOrLegal (s .terms .m) n) (eqb (a .kind) 9) (a .second) (s .terms .offer)
         (λ q. given-price (s .terms .m) (a .second) (and-right (noneOrLegal (s .terms .m) (a .price)) (noneOrLegal (s .terms .m) (a .second)) (aways q))) (λ q. facts .sound .terms .offer);
-    underlying = cond-either (λ (n : ℕ). n ≤ 100000) (eqb (a .kind) 10) (a .price) (s .terms .underlying)
-        (λ q. leb-true (a .price) 100000 (not-false (leb (a .price) 100000) (rw (eqb-true (a .kind) 10 q, stays-out 10 refl) at (tests .price)))) (λ q. facts .sound .terms .underlying);
+    underlying = cond-either (λ (n : ℕ). n ≤ topUnderlying) (eqb (a .kind) 10) (a .price) (s .terms .underlying)
+        (λ q. leb-true (a .price) topUnderlying (not-false (leb (a .price) topUnderlying) (rw (eqb-true (a .kind) 10 q, stays-out 10 refl) at (tests .price)))) (λ q. facts .sound .terms .underlying);
   }
     where
       aways : eqb (a .kind) 9 ≡ true → (noneOrLegal (s .terms .m) (a .price) && noneOrLegal (s .terms .m) (a .second)) ≡ true
       aways q = not-false (noneOrLegal (s .terms .m) (a .price) && noneOrLegal (s .terms .m) (a .second)) (rw (eqb-true (a .kind) 9 q, stays-out 9 refl) at (tests .price))
 
-  pub numbers-few : termsAfter (s .terms) a .given ≤ 1000000
+  pub numbers-few : termsAfter (s .terms) a .given ≤ lastNumber
   unfolding termsAfter
-  numbers-few = cond-either (λ (n : ℕ). n ≤ 1000000) (enters (a .kind)) (s .terms .given + 1) (s .terms .given) (λ q. omega (arith, enters-fresh q)) (λ q. facts .sound .most)
+  numbers-few = cond-either (λ (n : ℕ). n ≤ lastNumber) (enters (a .kind)) (s .terms .given + 1) (s .terms .given) (λ q. omega (arith, enters-fresh q)) (λ q. facts .sound .most)

@@ -13,13 +13,14 @@ use Rattle.lists.specs.Tests.{All}
 use Rattle.packing.specs.declared.message.Event.{Event}
 use Rattle.packing.specs.Codec.{unpackOf}
 use Rattle.packing.specs.Message.{messages}
+use Rattle.packing.specs.Room.{roomSize}
 use Rattle.book.specs.Shape.{entriesOf}
 use Rattle.series.specs.declared.Series.{Series}
 use Rattle.series.specs.Series.{soundSeries}
 use Rattle.handler.specs.declared.Ask.{Ask}
 use Rattle.handler.specs.Asked.{askOf}
 use Rattle.handler.specs.Refuse.{badParty, badPrice, badQuantity, notOpen, isBlocked, isFull, isSpent, isMissing, firstHolding, refusalOf}
-use Rattle.handler.specs.Handle.{firstOf, refusedOr, Handled, refused, accepted, heard, handled}
+use Rattle.handler.specs.Handle.{firstOf, refusedOr, Handled, refused, accepted, heard, handledAs, handled}
 
 -- the message unpacks to no event; a test is put to what an event asks
 abbrev pub isNothing : Option Event → Bool
@@ -34,7 +35,7 @@ asked (some e) test = test (askOf e)
 abbrev pub table : Series → Option Event → List ℕ → List (ℕ × Bool)
 table s event room =
     -- "report room under 31,920 bytes (2,280 reports of 14)"
-    (10, ltb (length room) 31920)
+    (10, ltb (length room) roomSize)
     -- "state handed in is unsound"
     ∷ (11, not (soundSeries s))
     -- "length not 11, unknown kind, a nonzero unused bit or field"
@@ -76,8 +77,8 @@ none-first (t ∷ ts) a = rw (a .0) (none-first ts (a .1))
 module _ (s : Series) (message room : List ℕ) where
   -- THE REFUSAL IS THE FIRST OF THE TABLE WHOSE TEST HOLDS
   pub refusals-in-order : handled s message room .answer .refusal ≡ firstHolding (table s (unpackOf messages message) room)
-  unfolding handled refusalOf
-  refusals-in-order = by (ltb (length room) 31920) (soundSeries s) (unpackOf messages message)
+  unfolding handled handledAs refusalOf
+  refusals-in-order = by (ltb (length room) roomSize) (soundSeries s) (unpackOf messages message)
     where
       judge : (e : Event) (b : Bool) → eqb (refusalOf s (askOf e)) 0 ≡ b
           → (cond b (accepted s (askOf e) room) (refused (refusalOf s (askOf e)) s room)) .answer .refusal ≡ refusalOf s (askOf e)
@@ -111,9 +112,10 @@ pub record Unchanged (s : Series) (room : List ℕ) (h : Handled) : Type 0 where
   pub bytes : h .room ≡ room
 
 -- A REFUSAL CHANGES NOTHING
-pub refusals-keep : (s : Series) (message room : List ℕ) → (handled s message room .answer .refusal ≡ 0 → ⊥) → Unchanged s room (handled s message room)
-unfolding handled
-refusals-keep s message room h = by (ltb (length room) 31920) (soundSeries s) (unpackOf messages message) h
+pub refusals-keep-as : (s : Series) (event : Option Event) (room : List ℕ) → (handledAs s event room .answer .refusal ≡ 0 → ⊥)
+    → Unchanged s room (handledAs s event room)
+unfolding handledAs
+refusals-keep-as s event room h = by (ltb (length room) roomSize) (soundSeries s) event h
   where
     same : (why : ℕ) → Unchanged s room (refused why s room)
     same why = record { series = refl; count = refl; bytes = refl }
@@ -129,3 +131,7 @@ refusals-keep s message room h = by (ltb (length room) 31920) (soundSeries s) (u
     by false false u k = same 11
     by false true none k = same 1
     by false true (some e) k = judge e (eqb (refusalOf s (askOf e)) 0) k
+
+pub refusals-keep : (s : Series) (message room : List ℕ) → (handled s message room .answer .refusal ≡ 0 → ⊥) → Unchanged s room (handled s message room)
+unfolding handled
+refusals-keep s message room h = refusals-keep-as s (unpackOf messages message) room h

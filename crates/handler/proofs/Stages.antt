@@ -10,6 +10,7 @@ use lib.Dec.{eqb}
 use lib.ListN.{length}
 use Rattle.lists.specs.Run.{still, andThen}
 use Rattle.packing.specs.declared.report.Report.the-variants.{Noted}
+use Rattle.packing.specs.Room.{roomSize}
 use Rattle.book.specs.declared.Entry.{Entry}
 use Rattle.book.specs.declared.Book.{Book}
 use Rattle.book.specs.Shape.{entriesOf}
@@ -63,7 +64,7 @@ module _ (t : Terms) (l : List Entry) where
 
 -- ---- behind the message's own part ----
 
-module _ (s : Series) (a : Ask) (ok : Accepted s a) {room : List ℕ} (space : 31920 ≤ length room) {b : Book} {room′ : List ℕ} {n′ : ℕ}
+module _ (s : Series) (a : Ask) (ok : Accepted s a) {room : List ℕ} (space : roomSize ≤ length room) {b : Book} {room′ : List ℕ} {n′ : ℕ}
     (first : Staged (ownPart (s .terms) a (entriesOf (s .book))) room 0 b room′ n′) where
   -- the book that it left is sound for settling
   pub then-sound : SoundFor (marketOf (termsAfter (s .terms) a)) (entriesOf b)

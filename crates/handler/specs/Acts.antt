@@ -25,7 +25,6 @@ use Rattle.handler.specs.declared.Ask.{Ask}
 use Rattle.kinds.specs.Kinds.{quotes, enables}
 use Rattle.handler.specs.Refuse.{badParty, refusalOf}
 use Rattle.handler.specs.Accept.{comer, settledIf}
-use Rattle.handler.specs.Handle.{beforeReading}
 
 -- a sound series, with its arrays of 64 and 16 places, and what the test of it has seen
 pub record Whole (s : Series) (check : Check) : Type 0 where
@@ -33,11 +32,6 @@ pub record Whole (s : Series) (check : Check) : Type 0 where
   pub well : WellFormed (s .book)
   pub blocks : length (s .blocked) ≡ 16
   pub seen : Summary (entriesOf (s .book)) check
-
--- what is known once 10 and 11 are tested
-pub record Admits (s : Series) (space why : ℕ) (check : Check) : Type 0 where
-  pub number : why ≡ beforeReading space (soundSeries s)
-  pub whole : why ≡ 0 → Whole s check
 
 -- and an event that no test refuses
 pub record Acts (s : Series) (check : Check) (a : Ask) : Type 0 where

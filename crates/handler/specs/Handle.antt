@@ -9,7 +9,7 @@ use lib.ListN.{length}
 use Rattle.packing.specs.declared.message.Event.{Event}
 use Rattle.packing.specs.Codec.{nothing, unpackOf}
 use Rattle.packing.specs.Message.{messages, messageAt}
-use Rattle.packing.specs.Room.{written}
+use Rattle.packing.specs.Room.{written, roomSize}
 use Rattle.book.specs.Shape.{entriesOf}
 use Rattle.series.specs.declared.Series.{Series}
 use Rattle.series.specs.Series.{soundSeries}
@@ -56,11 +56,15 @@ firstOf one number other next = cond one number (cond other next 0)
 
 -- 10: "report room under 31,920 bytes (2,280 reports of 14)"; 11: "state handed in is unsound"
 abbrev pub beforeReading : ℕ → Bool → ℕ
-beforeReading space sound = firstOf (ltb space 31920) 10 (not sound) 11
+beforeReading space sound = firstOf (ltb space roomSize) 10 (not sound) 11
 
--- WHAT IS ANSWERED, for every series, message and room: 10 is tested, then 11, and then the message is read
+-- what is answered to what a message unpacks to: 10 is tested, then 11, and then the message is read
+unfoldable pub handledAs : Series → Option Event → List ℕ → Handled
+handledAs s event room = refusedOr (beforeReading (length room) (soundSeries s)) s room (heard s room event)
+
+-- WHAT IS ANSWERED, for every series, message and room
 unfoldable pub handled : Series → List ℕ → List ℕ → Handled
-handled s message room = refusedOr (beforeReading (length room) (soundSeries s)) s room (heard s room (unpackOf messages message))
+handled s message room = handledAs s (unpackOf messages message) room
 
 -- "A message in a long run is judged where it stands in the run"
 abbrev pub handledAt : Series → List ℕ → ℕ → List ℕ → Handled

@@ -11,11 +11,11 @@ use Rattle.lists.specs.Tests.{any}
 use Rattle.book.specs.declared.Entry.{Entry}
 use Rattle.book.specs.declared.Rank.{Rank}
 use Rattle.book.specs.declared.Rank.the-variants.{At, Nowhere}
-use Rattle.book.specs.Entries.{quoteOf}
+use Rattle.book.specs.Entries.{quoteOf, lastNumber}
 use Rattle.book.specs.Shape.{entriesOf}
 use Rattle.book.specs.Look.{entryOf, quoteIn}
 use Rattle.soundness_theory.specs.Sound.{between}
-use Rattle.terms.specs.Terms.{topUnderlying, lastNumber}
+use Rattle.terms.specs.Terms.{topUnderlying}
 use Rattle.series.specs.declared.Series.{Series}
 use Rattle.handler.specs.declared.Ask.{Ask}
 use Rattle.kinds.specs.Kinds.{enters, quotes, carries, makers, cancelsEntry, cancelsQuote, setsAway, setsUnderlying, setsPhase}

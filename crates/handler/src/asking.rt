@@ -6,7 +6,7 @@ use packing::message::Entering;
 use packing::message::Event;
 ghost use mathlib.Core.Path.{_≡_};
 ghost use Prim.Native.Nat.{_≤_};
-ghost use Rattle.terms.specs.Terms.{lastNumber};
+ghost use Rattle.book.specs.Entries.{lastNumber};
 ghost use Rattle.handler.specs.Asked.{entering, askOf};
 ghost use Rattle.handler.specs.Accept.{comer};
 

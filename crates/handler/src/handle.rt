@@ -24,6 +24,7 @@ use packing::message::Unpacked;
 use packing::message::unpack;
 use packing::message::unpack_at;
 use packing::report::Report;
+use packing::room::ROOM;
 use prices::Market;
 use prices::protect::is_above_strike;
 use prices::protect::is_above_underlying;
@@ -44,8 +45,10 @@ ghost use Prim.Native.Nat.{_≤_};
 ghost use mathlib.Core.Path.{_≡_};
 ghost use lib.ListN.{length};
 ghost use Rattle.lists.specs.Run.{andThen};
+ghost use Rattle.packing.specs.Message.{eventIn};
+ghost use Rattle.packing.specs.Room.{roomSize};
 ghost use Rattle.packing.specs.declared.report.Report.the-variants.{Noted};
-ghost use Rattle.terms.specs.Terms.{lastNumber};
+ghost use Rattle.book.specs.Entries.{lastNumber};
 ghost use Rattle.book.specs.Shape.{entriesOf};
 ghost use Rattle.settling_theory.specs.Settle.{settled};
 ghost use Rattle.settling.specs.Turns.{Settleable};
@@ -55,8 +58,8 @@ ghost use Rattle.arrival.specs.Arrive.{reported};
 ghost use Rattle.handler.specs.Asked.{askOf};
 ghost use Rattle.handler.specs.Refuse.{refusalOf};
 ghost use Rattle.handler.specs.Accept.{ownPart, termsAfter, settledIf};
-ghost use Rattle.handler.specs.Acts.{Whole, Admits, Acts, facingBy, SettlesIf, BlocksFor, blockedBy, Marks};
-ghost use Rattle.handler.specs.Handle.{firstOf, inRoom, accepted, judged, handled, handledAt};
+ghost use Rattle.handler.specs.Acts.{Whole, Acts, facingBy, SettlesIf, BlocksFor, blockedBy, Marks};
+ghost use Rattle.handler.specs.Handle.{firstOf, inRoom, accepted, judged, handledAs, handled, handledAt};
 
 fn refused(series: Series, why: u32) -> Answer
     ensures { λ r. ⌜ r ≡ record { refusal = why; count = 0; series = series } ⌝ }
@@ -210,7 +213,7 @@ fn put_together(s: Series, a: Ask, terms: Terms, blocking: bool, book: Book) -> 
 // An event that no test refuses.
 fn accept(s: Series, check: Check, a: Ask, room: &mut [u8]) -> Answer
     requires { ⌜ Acts s check a ⌝ }
-    requires { ⌜ 31920 ≤ length (now room) ⌝ }
+    requires { ⌜ roomSize ≤ length (now room) ⌝ }
     ensures { λ r. ⌜ inRoom r (now (room .exit)) ≡ accepted s a (now (room .entry)) ⌝ }
 {
     let blocking = is_blocking(s.terms, a);
@@ -229,7 +232,7 @@ fn accept(s: Series, check: Check, a: Ask, room: &mut [u8]) -> Answer
 // What a message that was read is answered.
 fn answer_event(series: Series, check: Check, event: Event, room: &mut [u8]) -> Answer
     requires { ⌜ Whole series check ⌝ }
-    requires { ⌜ 31920 ≤ length (now room) ⌝ }
+    requires { ⌜ roomSize ≤ length (now room) ⌝ }
     ensures { λ r. ⌜ inRoom r (now (room .exit)) ≡ judged series (askOf event) (now (room .entry)) (refusalOf series (askOf event)) ⌝ }
 {
     let a = ask_of(event);
@@ -253,45 +256,31 @@ fn first_of(one: bool, number: u32, other: bool, next: u32) -> u32
     0
 }
 
-// A refusal, or 0 and what the test of the series has seen.
-pub struct Admission {
-    pub refusal: u32,
-    pub check: Check,
-}
-
-// The refusals that come before the message is read, by how many bytes of room there are.
-fn before_reading(series: Series, space: usize) -> Admission
-    ensures { λ r. ⌜ Admits series space (r .refusal) (r .check) ⌝ }
+// The answer to what a message unpacks to. The refusals 10 and 11 come before it is looked at.
+pub fn handle_read(series: Series, read: Unpacked, room: &mut [u8]) -> Answer
+    ensures { λ r. ⌜ inRoom r (now (room .exit)) ≡ handledAs series (eventIn read) (now (room .entry)) ⌝ }
 {
     let check = check_series(series);
-    let refusal = first_of(space < 31920, 10, !check.ok, 11);
-    Admission { refusal, check }
+    let why = first_of(room.len() < ROOM, 10, !check.ok, 11);
+    if why != 0 {
+        return refused(series, why);
+    }
+    let Unpacked::Message(event) = read else {
+        return refused(series, 1);
+    };
+    answer_event(series, check, event, room)
 }
 
 // Every series, message and room has its answer.
 pub fn handle(series: Series, message: &[u8], room: &mut [u8]) -> Answer
     ensures { λ r. ⌜ inRoom r (now (room .exit)) ≡ handled series (now (message .entry)) (now (room .entry)) ⌝ }
 {
-    let admission = before_reading(series, room.len());
-    if admission.refusal != 0 {
-        return refused(series, admission.refusal);
-    }
-    let Unpacked::Message(event) = unpack(message) else {
-        return refused(series, 1);
-    };
-    answer_event(series, admission.check, event, room)
+    handle_read(series, unpack(message), room)
 }
 
 // The same of a message where it stands in a run.
 pub fn handle_at(series: Series, run: &[u8], at: usize, room: &mut [u8]) -> Answer
     ensures { λ r. ⌜ inRoom r (now (room .exit)) ≡ handledAt series (now (run .entry)) at (now (room .entry)) ⌝ }
 {
-    let admission = before_reading(series, room.len());
-    if admission.refusal != 0 {
-        return refused(series, admission.refusal);
-    }
-    let Unpacked::Message(event) = unpack_at(run, at) else {
-        return refused(series, 1);
-    };
-    answer_event(series, admission.check, event, room)
+    handle_read(series, unpack_at(run, at), room)
 }

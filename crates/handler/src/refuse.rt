@@ -2,6 +2,7 @@
 use crate::Ask;
 use book::Book;
 use book::Rank;
+use book::entries::LAST_NUMBER;
 use book::find::find_entry;
 use kinds::AWAY;
 use kinds::CANCEL_ENTRY;
@@ -18,7 +19,6 @@ use series::Series;
 use series::sound::is_between;
 use soundness::Check;
 use soundness::figures::has_quote;
-use terms::LAST_NUMBER;
 use terms::TOP_UNDERLYING;
 ghost use mathlib.Core.Path.{_≡_};
 ghost use mathlib.Core.Bool.{true, false};

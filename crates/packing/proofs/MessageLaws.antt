@@ -13,7 +13,7 @@ use Rattle.packing.specs.declared.message.Event.the-variants.{Plain, Mml
 use Rattle.packing.specs.declared.message.Unpacked.{Unpacked}
 use Rattle.packing.specs.declared.message.Unpacked.the-variants.{Message, Nothing}
 use Rattle.packing.specs.Codec.{bit, lookUp, answerOf, unpackOf}
-use Rattle.packing.specs.Message.{codeOf, byKind, claimedBy, messages, unpacked, saidBy}
+use Rattle.packing.specs.Message.{codeOf, byKind, claimedBy, messages, unpacked, saidBy, eventIn}
 use Rattle.packing.proofs.CodecLaws.{Lawful, bit-is, told-both}
 
 -- no other kind is in the table
@@ -61,6 +61,10 @@ pub lawful : Lawful messages
 lawful = record { whole = refl; long = refl; code-claimed = code-claimed }
 
 -- an answer in Rattle's type says which it is
+pub event-in : (u : Option Event) → eventIn (unpacked u) ≡ u
+event-in none = refl
+event-in (some e) = refl
+
 pub was-nothing : (u : Option Event) → unpacked u ≡ Nothing → u ≡ none
 was-nothing none h = refl
 was-nothing (some e) h = absurd (let z : _≡_ {A = ℕ} 0 1 = cc in omega arith)

@@ -73,6 +73,11 @@ abbrev pub unpacked : Option Event → Unpacked
 unpacked none = Nothing
 unpacked (some e) = Message e
 
+-- and back: the event that an answer holds
+abbrev pub eventIn : Unpacked → Option Event
+eventIn Nothing = none
+eventIn (Message e) = some e
+
 -- document 01's number and fields for each case of the answer
 abbrev pub saidBy : Unpacked → ℕ × List ℕ
 saidBy Nothing = (nothing, [])

@@ -11,6 +11,13 @@ use Rattle.packing.specs.declared.report.Report.{Report}
 use Rattle.packing.specs.Codec.{bytesOf, packs, unpackOf}
 use Rattle.packing.specs.Report.{reports, codeOf}
 
+-- "report room under 31,920 bytes (2,280 reports of 14)"
+abbrev pub mostReports : ℕ
+mostReports = 2280
+
+abbrev pub roomSize : ℕ
+roomSize = mostReports * 14
+
 -- the bytes of reports, one after the other
 unfoldable pub packedAll : List Report → List ℕ
 packedAll [] = []

@@ -21,10 +21,14 @@ codeOf s = bit (s .put) ∷ bit (s .exempt) ∷ s .m ∷ s .k ∷ s .strike ∷ 
 abbrev pub claimedBy : List ℕ → Option Setup
 claimedBy l = some (record { put = eqb (getD l 0 0) 1; exempt = eqb (getD l 1 0) 1; m = getD l 2 0; k = getD l 3 0; strike = getD l 4 0 })
 
+-- "Strike 1 to 100,000"
+abbrev pub topStrike : ℕ
+topStrike = 100000
+
 -- "M, the series' MPV: 1, 5 or 10", "K .. is 0 to 100", "Strike 1 to 100,000". "Setup of other length or values is refused (1, no series)"
 abbrev pub legalSetup : Setup → Bool
 legalSetup s =
-    (eqb (s .m) 1 || (eqb (s .m) 5 || eqb (s .m) 10)) && (leb (s .k) 100 && (leb 1 (s .strike) && leb (s .strike) 100000))
+    (eqb (s .m) 1 || (eqb (s .m) 5 || eqb (s .m) 10)) && (leb (s .k) 100 && (leb 1 (s .strike) && leb (s .strike) topStrike))
 
 abbrev pub setups : Codec Setup
 setups = record { widths = widths; size = 4; code = codeOf; claimed = claimedBy; admitted = legalSetup }

@@ -6,6 +6,11 @@ ghost use lib.Seq.{sets};
 ghost use Rattle.packing.specs.Room.{isPut, roomAfter};
 use crate::report::Report;
 
+// How many reports a message may have, and how many bytes of room they take.
+pub const MOST_REPORTS: usize = 2280;
+
+pub const ROOM: usize = 31920;
+
 // Stores the bytes of `part` from `start` on.
 pub fn store(room: &mut [u8], start: usize, part: &[u8])
     requires { ⌜ start + length (now part) ≤ length (now room) ⌝ }

@@ -23,6 +23,9 @@ pub struct Packed {
     pub bytes: [u8; SIZE],
 }
 
+// The highest strike.
+pub const TOP_STRIKE: u32 = 100000;
+
 // How many bytes one has.
 const SIZE: usize = 4;
 
@@ -58,7 +61,7 @@ fn is_legal(s: Setup) -> bool
     ensures { λ r. ⌜ r ≡ legalSetup s ⌝ }
 {
     ((s.m == 1) | ((s.m == 5) | (s.m == 10)))
-        & ((s.k <= 100) & ((1 <= s.strike) & (s.strike <= 100000)))
+        & ((s.k <= 100) & ((1 <= s.strike) & (s.strike <= TOP_STRIKE)))
 }
 
 // The setup that the fields say, if they are just its fields and its values are legal.

@@ -16,6 +16,7 @@ use Rattle.book.specs.declared.Entry.{Entry}
 use Rattle.book.specs.declared.Book.{Book}
 use Rattle.book.specs.Shape.{zeroEntry, entriesOf, bookOf}
 use Rattle.book.proofs.ShapeLaws.{entries-of-book}
+use Rattle.book.specs.Entries.{lastNumber}
 use Rattle.soundness_theory.specs.Sound.{soundEntries, unusedEntry, soundBook}
 use Rattle.soundness_theory.specs.SoundMarket.{soundMarket}
 use Rattle.terms.specs.declared.Terms.{Terms}
@@ -79,7 +80,7 @@ series-facts s h =
     record { sound = f; step = step-mpv (f .terms .step); market = terms-market (s .terms) (f .terms); entries = b .0; size = b .1 }
 
 -- AND THE OTHER DIRECTION, of a series that holds the entries l
-pub facts-series : (t : Terms) (blocked : List Bool) (l : List Entry) → LegalTerms t → t .given ≤ 1000000 → soundEntries (t .m) (t .given) l ≡ true → length l ≤ 64
+pub facts-series : (t : Terms) (blocked : List Bool) (l : List Entry) → LegalTerms t → t .given ≤ lastNumber → soundEntries (t .m) (t .given) l ≡ true → length l ≤ 64
     → SoundPhase (t .phase) l → soundSeries (record { terms = t; blocked = blocked; book = bookOf l }) ≡ true
 facts-series t blocked l f most e n p = passed (record { terms = t; blocked = blocked; book = bookOf l }) (record {
   terms = facts-terms t f most;

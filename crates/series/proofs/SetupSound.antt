@@ -19,7 +19,7 @@ use Rattle.lists.proofs.Bools.{and-left, and-right}
 use Rattle.packing.specs.declared.setup.Setup.{Setup}
 use Rattle.packing.specs.Codec.{fieldsIn, checked, thingOf, unpackOf}
 use Rattle.packing.proofs.CodecLaws.{onlyIf-some}
-use Rattle.packing.specs.Setup.{codeOf, legalSetup, setups}
+use Rattle.packing.specs.Setup.{codeOf, legalSetup, setups, topStrike}
 use Rattle.soundness_theory.specs.Sound.{between, soundEntries}
 use Rattle.soundness_theory.proofs.SoundFacts.{between-both}
 use Rattle.series.specs.Series.{newSeries, noSeries, opened, soundTerms, soundSeries}
@@ -49,12 +49,12 @@ pub legal-sound : (x : Setup) → legalSetup x ≡ true → soundSeries (newSeri
 unfolding mpv soundEntries all pairs
 legal-sound x h =
     let step : Bool = eqb (x .m) 1 || (eqb (x .m) 5 || eqb (x .m) 10) in
-    let rest = and-right step (leb (x .k) 100 && between 1 100000 (x .strike)) h in
+    let rest = and-right step (leb (x .k) 100 && between 1 topStrike (x .strike)) h in
     facts-series (newSeries x .terms) (replicate 16 false) []
     (record {
-      step = mpv-step (is-mpv (x .m) (and-left step (leb (x .k) 100 && between 1 100000 (x .strike)) h));
-      steps = leb-true (x .k) 100 (and-left (leb (x .k) 100) (between 1 100000 (x .strike)) rest);
-      strike = between-both 1 100000 (x .strike) (and-right (leb (x .k) 100) (between 1 100000 (x .strike)) rest);
+      step = mpv-step (is-mpv (x .m) (and-left step (leb (x .k) 100 && between 1 topStrike (x .strike)) h));
+      steps = leb-true (x .k) 100 (and-left (leb (x .k) 100) (between 1 topStrike (x .strike)) rest);
+      strike = between-both 1 topStrike (x .strike) (and-right (leb (x .k) 100) (between 1 topStrike (x .strike)) rest);
       phase = omega arith;
       bid = inl refl;
       offer = inl refl;

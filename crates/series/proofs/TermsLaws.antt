@@ -16,13 +16,15 @@ use Rattle.lists.proofs.Bools.{and-parts}
 use Rattle.lists.proofs.PlaceLaws.{length-none}
 use Rattle.lists.proofs.TestLaws.{any-false, false-any}
 use Rattle.book.specs.declared.Entry.{Entry}
-use Rattle.book.specs.Entries.{quote}
+use Rattle.book.specs.Entries.{quote, lastNumber}
 use Rattle.soundness_theory.specs.Sound.{between}
 use Rattle.soundness_theory.proofs.SoundFacts.{between-both, both-between}
 use Rattle.soundness.proofs.DecideLaws.{legal-price, price-legal}
 use Rattle.terms.specs.declared.Terms.{Terms}
+use Rattle.terms.specs.Terms.{topUnderlying}
 use Rattle.series.specs.Series.{soundTerms, soundPhase}
 use Rattle.series.specs.SoundSeries.{NoneOrLegal, LegalTerms, SoundPhase}
+use Rattle.packing.specs.Setup.{topStrike}
 
 -- ---- a series' numbers ----
 
@@ -55,44 +57,44 @@ price-given m p (inr l) = go (eqb p 0)
     go false = price-legal m p l
 
 module _ (t : Terms) where
-  pub terms-facts : soundTerms t ≡ true → LegalTerms t × (t .given ≤ 1000000)
+  pub terms-facts : soundTerms t ≡ true → LegalTerms t × (t .given ≤ lastNumber)
   unfolding soundTerms
   terms-facts h =
-      let h₇ : Bool = leb (t .underlying) 100000 && leb (t .given) 1000000 in
+      let h₇ : Bool = leb (t .underlying) topUnderlying && leb (t .given) lastNumber in
       let h₆ : Bool = noneOrLegal (t .m) (t .offer) && h₇ in
       let h₅ : Bool = noneOrLegal (t .m) (t .bid) && h₆ in
       let h₄ : Bool = leb (t .phase) 2 && h₅ in
-      let h₃ : Bool = between 1 100000 (t .strike) && h₄ in
+      let h₃ : Bool = between 1 topStrike (t .strike) && h₄ in
       let a = and-parts (mpv (t .m)) (leb (t .k) 100 && h₃) h in
       let b = and-parts (leb (t .k) 100) h₃ (a .1) in
-      let c = and-parts (between 1 100000 (t .strike)) h₄ (b .1) in
+      let c = and-parts (between 1 topStrike (t .strike)) h₄ (b .1) in
       let d = and-parts (leb (t .phase) 2) h₅ (c .1) in
       let e = and-parts (noneOrLegal (t .m) (t .bid)) h₆ (d .1) in
       let f = and-parts (noneOrLegal (t .m) (t .offer)) h₇ (e .1) in
-      let g = and-parts (leb (t .underlying) 100000) (leb (t .given) 1000000) (f .1) in (
+      let g = and-parts (leb (t .underlying) topUnderlying) (leb (t .given) lastNumber) (f .1) in (
         record {
           step = mpv-step (is-mpv (t .m) (a .0));
           steps = leb-true (t .k) 100 (b .0);
-          strike = between-both 1 100000 (t .strike) (c .0);
+          strike = between-both 1 topStrike (t .strike) (c .0);
           phase = leb-true (t .phase) 2 (d .0);
           bid = given-price (t .m) (t .bid) (e .0);
           offer = given-price (t .m) (t .offer) (f .0);
-          underlying = leb-true (t .underlying) 100000 (g .0);
+          underlying = leb-true (t .underlying) topUnderlying (g .0);
         },
-        leb-true (t .given) 1000000 (g .1),
+        leb-true (t .given) lastNumber (g .1),
       )
 
-  pub facts-terms : LegalTerms t → t .given ≤ 1000000 → soundTerms t ≡ true
+  pub facts-terms : LegalTerms t → t .given ≤ lastNumber → soundTerms t ≡ true
   unfolding soundTerms
   facts-terms f most = rw (
     step-mpv (f .step),
     le-leb (t .k) 100 (f .steps),
-    both-between 1 100000 (t .strike) (f .strike),
+    both-between 1 topStrike (t .strike) (f .strike),
     le-leb (t .phase) 2 (f .phase),
     price-given (t .m) (t .bid) (f .bid),
     price-given (t .m) (t .offer) (f .offer),
-    le-leb (t .underlying) 100000 (f .underlying),
-    le-leb (t .given) 1000000 most,
+    le-leb (t .underlying) topUnderlying (f .underlying),
+    le-leb (t .given) lastNumber most,
   )
 
 -- ---- the phase ----

@@ -10,11 +10,13 @@ use Rattle.prices.specs.Step.{mpv, noneOrLegal}
 use Rattle.lists.specs.Tests.{any}
 use Rattle.packing.specs.Codec.{nothing}
 use Rattle.packing.specs.declared.setup.Setup.{Setup}
+use Rattle.packing.specs.Setup.{topStrike}
 use Rattle.book.specs.declared.Entry.{Entry}
-use Rattle.book.specs.Entries.{quote}
+use Rattle.book.specs.Entries.{quote, lastNumber}
 use Rattle.book.specs.Shape.{entriesOf, bookOf}
 use Rattle.soundness_theory.specs.Sound.{between, soundBook}
 use Rattle.terms.specs.declared.Terms.{Terms}
+use Rattle.terms.specs.Terms.{topUnderlying}
 use Rattle.series.specs.declared.Series.{Series}
 use Rattle.series.specs.declared.Made.{Made}
 
@@ -52,8 +54,8 @@ opened (some s) = record { refusal = 0; series = newSeries s }
 -- given "at most 1,000,000"
 unfoldable pub soundTerms : Terms → Bool
 soundTerms t =
-    mpv (t .m) && (leb (t .k) 100 && (between 1 100000 (t .strike) && (leb (t .phase) 2
-    && (noneOrLegal (t .m) (t .bid) && (noneOrLegal (t .m) (t .offer) && (leb (t .underlying) 100000 && leb (t .given) 1000000))))))
+    mpv (t .m) && (leb (t .k) 100 && (between 1 topStrike (t .strike) && (leb (t .phase) 2
+    && (noneOrLegal (t .m) (t .bid) && (noneOrLegal (t .m) (t .offer) && (leb (t .underlying) topUnderlying && leb (t .given) lastNumber))))))
 
 -- "closed means nothing rests, halted means no quote rests"
 unfoldable pub soundPhase : ℕ → List Entry → Bool

@@ -8,11 +8,13 @@ use mathlib.Core.List.{List, []}
 use mathlib.Core.Logic.{_⊎_}
 use Rattle.lists.specs.Tests.{All}
 use Rattle.book.specs.declared.Entry.{Entry}
-use Rattle.book.specs.Entries.{quote}
+use Rattle.book.specs.Entries.{quote, lastNumber}
 use Rattle.book.specs.Shape.{entriesOf}
 use Rattle.soundness.specs.SoundBook.{LegalPrice, Each, EachTwo, Distinct, Numbered, LegalFigures, OneQuote, Uncrossed, SoundPrices, UnusedZero}
 use Rattle.terms.specs.declared.Terms.{Terms}
+use Rattle.terms.specs.Terms.{topUnderlying}
 use Rattle.series.specs.declared.Series.{Series}
+use Rattle.packing.specs.Setup.{topStrike}
 
 -- "An away bid, away offer .. of 0 means none"
 abbrev pub NoneOrLegal : ℕ → ℕ → Type 0
@@ -23,13 +25,13 @@ pub record LegalTerms (t : Terms) : Type 0 where
   -- "the series' MPV: 1, 5 or 10"; "K, the configurable number of MPVs, is 0 to 100. Strike 1 to 100,000."
   pub step : (t .m ≡ 1) ⊎ ((t .m ≡ 5) ⊎ (t .m ≡ 10))
   pub steps : t .k ≤ 100
-  pub strike : (1 ≤ t .strike) × (t .strike ≤ 100000)
+  pub strike : (1 ≤ t .strike) × (t .strike ≤ topStrike)
   -- "phase: 0 closed, 1 open, 2 halted"
   pub phase : t .phase ≤ 2
   -- the away prices; "underlying price, 0 to 100,000, any cent"
   pub bid : NoneOrLegal (t .m) (t .bid)
   pub offer : NoneOrLegal (t .m) (t .offer)
-  pub underlying : t .underlying ≤ 100000
+  pub underlying : t .underlying ≤ topUnderlying
 
 -- "closed means nothing rests, halted means no quote rests"
 pub record SoundPhase (phase : ℕ) (l : List Entry) : Type 0 where
@@ -42,7 +44,7 @@ pub record SoundSeries (s : Series) : Type 0 where
   -- "entry numbers are distinct and among those given, at most 1,000,000;"
   pub distinct : EachTwo (s .book) Distinct
   pub numbered : Each (s .book) (Numbered (s .terms .given))
-  pub most : s .terms .given ≤ 1000000
+  pub most : s .terms .given ≤ lastNumber
   -- "limits, quantities and parties are legal;"
   pub figures : Each (s .book) (LegalFigures (s .terms .m))
   -- "one quote at most per maker and side;"

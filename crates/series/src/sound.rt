@@ -1,10 +1,13 @@
 // Whether a series handed in is sound, however damaged.
 use crate::Series;
+use book::entries::LAST_NUMBER;
+use packing::setup::TOP_STRIKE;
 use prices::step::is_mpv;
 use prices::step::is_none_or_legal;
 use soundness::Check;
 use soundness::check_book;
 use soundness::figures::broken;
+use terms::TOP_UNDERLYING;
 use terms::Terms;
 ghost use mathlib.Core.Path.{_≡_};
 ghost use Rattle.series.specs.Series.{soundTerms};
@@ -26,11 +29,11 @@ fn are_terms_sound(t: Terms) -> bool
         return false;
     }
     (t.k <= 100)
-        & (is_between(1, 100000, t.strike)
+        & (is_between(1, TOP_STRIKE, t.strike)
             & ((t.phase <= 2)
                 & (is_none_or_legal(t.m, t.bid)
                     & (is_none_or_legal(t.m, t.offer)
-                        & ((t.underlying <= 100000) & (t.given <= 1000000))))))
+                        & ((t.underlying <= TOP_UNDERLYING) & (t.given <= LAST_NUMBER))))))
 }
 
 // Closed means nothing rests, halted means no quote rests.

@@ -9,7 +9,7 @@ use native.Mathlib.Omega.{arith}
 use lib.Dec.{eqb, leb}
 use borrow.Author.Tests.{eqb-true}
 use lib.ListN.{length, take, drop, replicate, take-append-drop}
-use Rattle.prices.specs.Step.{noneOrLegal}
+use Rattle.prices.specs.Step.{noneOrLegal, topPrice}
 use Rattle.prices.proofs.StepLaws.{is-mpv, small, is-none-or-legal}
 use Rattle.lists.proofs.Bools.{and-left, and-right}
 use Rattle.lists.specs.Tests.{All, all}
@@ -23,6 +23,7 @@ use Rattle.book.specs.declared.Entry.{Entry}
 use Rattle.book.specs.declared.Pricing.{Pricing}
 use Rattle.book.specs.declared.Pricing.the-variants.{Fixed, Dark, Sliding}
 use Rattle.book.specs.Shape.{entriesOf}
+use Rattle.book.specs.Entries.{lastNumber}
 use Rattle.soundness_theory.specs.Sound.{unusedEntry, soundEntries, soundBook}
 use Rattle.soundness_theory.proofs.Facts.{PricedAs, EntryFacts}
 use Rattle.soundness_theory.proofs.SoundFacts.{is-sound}
@@ -52,7 +53,7 @@ display-fits m kind limit w s Fixed f = omega arith
 display-fits m kind limit w s Dark f = omega arith
 display-fits m kind limit w s (Sliding d) f = omega (arith, f .slides .shown .high)
 
-entry-packs : (m top : ℕ) → top ≤ 1000000 → (e : Entry) → EntryFacts m top e → packs entries e ≡ true
+entry-packs : (m top : ℕ) → top ≤ lastNumber → (e : Entry) → EntryFacts m top e → packs entries e ≡ true
 entry-packs m top few e f =
     fit-packs entries e (
       omega (arith, f .given, few),
@@ -91,10 +92,10 @@ module _ (s : Series) (sound : soundSeries s ≡ true) (places : length (s .book
   facts : SeriesFacts s
   facts = series-facts s sound
 
-  given-few : (p : ℕ) → noneOrLegal (s .terms .m) p ≡ true → p ≤ 100000
+  given-few : (p : ℕ) → noneOrLegal (s .terms .m) p ≡ true → p ≤ topPrice
   given-few p g = by (eqb p 0) refl
     where
-      by : (b : Bool) → eqb p 0 ≡ b → p ≤ 100000
+      by : (b : Bool) → eqb p 0 ≡ b → p ≤ topPrice
       by true q = omega (arith, eqb-true p 0 q)
       by false q = is-none-or-legal (s .terms .m) p g .legal q .high
 

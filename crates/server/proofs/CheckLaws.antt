@@ -13,32 +13,26 @@ use Rattle.prices.specs.Step.{mpv}
 use Rattle.lists.specs.Tests.{All}
 use Rattle.lists.proofs.Bools.{and-left}
 use Rattle.packing.specs.declared.message.Event.{Event}
-use Rattle.packing.specs.declared.message.Unpacked.the-variants.{Message, Nothing}
-use Rattle.packing.specs.Codec.{unpackOf, answerOf}
-use Rattle.packing.specs.Message.{messages, saidBy}
+use Rattle.packing.specs.Codec.{unpackOf}
+use Rattle.packing.specs.Message.{messages}
+use Rattle.packing.specs.Room.{roomSize}
 use Rattle.series.specs.declared.Series.{Series}
 use Rattle.series.specs.Series.{soundSeries, soundTerms}
 use Rattle.handler.specs.Asked.{askOf}
 use Rattle.handler.specs.Refuse.{firstHolding, refusals}
 use Rattle.handler.specs.Handle.{handled}
 use Rattle.handler.proofs.Refusals.{table, first-none, refusals-in-order}
-use Rattle.server.specs.Check.{isMessage, faults, faultOf, check}
+use Rattle.server.specs.Check.{faults, faultOf, checkAs, check}
 
 -- ---- what the code cites ----
 
-pub is-message : (s : List ℕ) (e : Event) → answerOf messages (unpackOf messages s) ≡ saidBy (Message e) → isMessage s ≡ 0
-is-message s e h = ap (λ (p : ℕ × List ℕ). p .0) h
+pub check-no-series : (event : Option Event) (m : ℕ) → mpv m ≡ false → checkAs event m ≡ 11
+unfolding checkAs
+check-no-series event m h = rw h refl
 
-pub is-nothing : (s : List ℕ) → answerOf messages (unpackOf messages s) ≡ saidBy Nothing → isMessage s ≡ 1
-is-nothing s h = ap (λ (p : ℕ × List ℕ). p .0) h
-
-pub check-no-series : (s : List ℕ) (m : ℕ) → mpv m ≡ false → check s m ≡ 11
-unfolding check
-check-no-series s m h = rw h refl
-
-pub check-read : (s : List ℕ) (m : ℕ) (u : Option Event) → mpv m ≡ true → unpackOf messages s ≡ u → check s m ≡ faultOf m u
-unfolding check
-check-read s m u h e = rw (h, e) refl
+pub check-read : (event : Option Event) (m : ℕ) (u : Option Event) → mpv m ≡ true → event ≡ u → checkAs event m ≡ faultOf m u
+unfolding checkAs
+check-read event m u h e = rw (h, e) refl
 
 -- ---- with a series at hand ----
 
@@ -70,14 +64,14 @@ pub record Foretells (checked refusal : ℕ) : Type 0 where
   pub fault : (checked ≡ 0 → ⊥) → refusal ≡ checked
   pub none : checked ≡ 0 → (n : ℕ) → 1 ≤ n → n ≤ 4 → refusal ≡ n → ⊥
 
-module _ (s : Series) (message room : List ℕ) (sound : soundSeries s ≡ true) (space : 31920 ≤ length room) where
+module _ (s : Series) (message room : List ℕ) (sound : soundSeries s ≡ true) (space : roomSize ≤ length room) where
   -- the handler's tests behind the first two
   judges : Option Event → ℕ
   judges u = firstHolding (drop 2 (table s u room))
 
   judged-so : handled s message room .answer .refusal ≡ judges (unpackOf messages message)
   unfolding judges
-  judged-so = refusals-in-order s message room ∙ early (ltb (length room) 31920) (soundSeries s) (judges (unpackOf messages message)) (le-ltb _ _ space) sound
+  judged-so = refusals-in-order s message room ∙ early (ltb (length room) roomSize) (soundSeries s) (judges (unpackOf messages message)) (le-ltb _ _ space) sound
     where
       early : (b c : Bool) (n : ℕ) → b ≡ false → c ≡ true → cond b 10 (cond (not c) 11 n) ≡ n
       early b c n h k = rw (h, k) refl

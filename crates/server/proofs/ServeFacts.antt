@@ -17,6 +17,7 @@ use Rattle.packing.specs.Message.{messages}
 use Rattle.packing.specs.declared.setup.Setup.{Setup}
 use Rattle.packing.specs.Setup.{setups}
 use Rattle.packing.proofs.CodecLaws.{packs-fit}
+use Rattle.packing.specs.Room.{roomSize}
 use Rattle.book.proofs.ShapeLaws.{book-well-formed}
 use Rattle.book.specs.Shape.{entriesOf, bookOf}
 use Rattle.series.specs.declared.Series.{Series}
@@ -37,7 +38,7 @@ use Rattle.series_buffer.specs.Header.{headers}
 use Rattle.series_buffer.specs.State.{headerOf, unpackSeries, packsSeries, seriesBytes, packSeries}
 use Rattle.series_buffer.proofs.RoundTrip.{series-pack, pack-series}
 use Rattle.series_buffer.proofs.SoundPacks.{sound-state}
-use Rattle.server.specs.Serve.{SetUp, setUp, Served, unserved, holding, serveIn, serve}
+use Rattle.server.specs.Serve.{SetUp, setUp, Served, unserved, holding, serveIn, serveAs, serve}
 
 -- ---- refusals ----
 
@@ -48,11 +49,11 @@ pub record Kept (state room : List ℕ) (x : Served) : Type 0 where
 
 -- EVERY REFUSAL LEAVES EVERY LENT BYTE AS IT STOOD, and count 0
 pub refused-keeps : (state message room : List ℕ) → Bytes state → (serve state message room .refusal ≡ 0 → ⊥) → Kept state room (serve state message room)
-unfolding serve
-refused-keeps state message room b h = by (ltb (length room) 31920) (unpackSeries state) refl h
+unfolding serve serveAs handled
+refused-keeps state message room b h = by (ltb (length room) roomSize) (unpackSeries state) refl h
   where
-    by : (c : Bool) (o : Option Series) → unpackSeries state ≡ o → ((cond c (unserved 10 state room) (serveIn state message room o)) .refusal ≡ 0 → ⊥)
-        → Kept state room (cond c (unserved 10 state room) (serveIn state message room o))
+    by : (c : Bool) (o : Option Series) → unpackSeries state ≡ o → ((cond c (unserved 10 state room) (serveIn state (unpackOf messages message) room o)) .refusal ≡ 0 → ⊥)
+        → Kept state room (cond c (unserved 10 state room) (serveIn state (unpackOf messages message) room o))
     by true o q k = record { count = refl; buffer = refl; reports = refl }
     by false none q k = record { count = refl; buffer = refl; reports = refl }
     by false (some s) q k =
@@ -64,16 +65,16 @@ refused-keeps state message room b h = by (ltb (length room) 31920) (unpackSerie
         }
 
 -- A BUFFER THAT HOLDS NO SOUND SERIES IS REFUSAL 11, whatever its bytes and the message
-pub unsound-11 : (state message room : List ℕ) → 31920 ≤ length room → ((s : Series) → unpackSeries state ≡ some s → soundSeries s ≡ false)
+pub unsound-11 : (state message room : List ℕ) → roomSize ≤ length room → ((s : Series) → unpackSeries state ≡ some s → soundSeries s ≡ false)
     → serve state message room .refusal ≡ 11
-unfolding serve handled
+unfolding serve serveAs handledAs
 unsound-11 state message room space damaged =
-    ap (λ (c : Bool). (cond c (unserved 10 state room) (serveIn state message room (unpackSeries state))) .refusal) (le-ltb (length room) 31920 space)
+    ap (λ (c : Bool). (cond c (unserved 10 state room) (serveIn state (unpackOf messages message) room (unpackSeries state))) .refusal) (le-ltb (length room) roomSize space)
     ∙ by (unpackSeries state) refl
   where
-    by : (o : Option Series) → unpackSeries state ≡ o → serveIn state message room o .refusal ≡ 11
+    by : (o : Option Series) → unpackSeries state ≡ o → serveIn state (unpackOf messages message) room o .refusal ≡ 11
     by none q = refl
-    by (some s) q = rw (le-ltb (length room) 31920 space, damaged s q) refl
+    by (some s) q = rw (le-ltb (length room) roomSize space, damaged s q) refl
 
 -- ---- accepted messages ----
 
@@ -113,11 +114,11 @@ only false l s h = absurd (let z : _≡_ {A = ℕ} 0 1 = cc in omega arith)
 
 -- AN ACCEPTED MESSAGE LEAVES THE SERIES AFTERWARDS IN THE BUFFER, packed, and that series is sound
 pub accepted-holds : (state message room : List ℕ) → Bytes state → serve state message room .refusal ≡ 0 → AcceptedIn state message (serve state message room)
-unfolding serve packSeries
-accepted-holds state message room b h = by (ltb (length room) 31920) (unpackSeries state) refl h
+unfolding serve serveAs packSeries handled
+accepted-holds state message room b h = by (ltb (length room) roomSize) (unpackSeries state) refl h
   where
-    by : (c : Bool) (o : Option Series) → unpackSeries state ≡ o → (cond c (unserved 10 state room) (serveIn state message room o)) .refusal ≡ 0
-        → AcceptedIn state message (cond c (unserved 10 state room) (serveIn state message room o))
+    by : (c : Bool) (o : Option Series) → unpackSeries state ≡ o → (cond c (unserved 10 state room) (serveIn state (unpackOf messages message) room o)) .refusal ≡ 0
+        → AcceptedIn state message (cond c (unserved 10 state room) (serveIn state (unpackOf messages message) room o))
     by true o q z = absurd (omega (arith, z))
     by false none q z = absurd (omega (arith, z))
     by false (some s) q z =

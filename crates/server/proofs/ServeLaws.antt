@@ -11,6 +11,8 @@ use lib.ListN.{length}
 use borrow.Author.Tests.{eqb-true, eq-eqb, lt-ltb, le-ltb}
 use Rattle.bits.specs.Fields.{Bytes}
 use Rattle.packing.specs.declared.setup.Setup.{Setup}
+use Rattle.packing.specs.declared.message.Event.{Event}
+use Rattle.packing.specs.Room.{roomSize}
 use Rattle.packing.specs.Codec.{onlyIf, unpackOf}
 use Rattle.packing.specs.Setup.{setups}
 use Rattle.book.specs.Shape.{bookOf}
@@ -20,14 +22,14 @@ use Rattle.series.specs.Series.{newSeries, opened}
 use Rattle.series.proofs.SoundSeriesDecides.{sound-series-decides}
 use Rattle.series.proofs.SetupSound.{setup-sound}
 use Rattle.handler.specs.declared.Answer.{Answer}
-use Rattle.handler.specs.Handle.{Handled, inRoom, handled}
-use Rattle.handler.proofs.Refusals.{Unchanged, refusals-keep}
+use Rattle.handler.specs.Handle.{Handled, inRoom, handledAs}
+use Rattle.handler.proofs.Refusals.{Unchanged, refusals-keep-as}
 use Rattle.series_buffer.specs.declared.Unpacked.{Unpacked}
 use Rattle.series_buffer.specs.State.{unpackSeries, packsSeries, seriesBytes, packSeries, unpacked, isStored, bufferAfter}
 use Rattle.series_buffer.proofs.RoundTrip.{series-pack}
 use Rattle.series_buffer.proofs.StateLaws.{other-length}
 use Rattle.series_buffer.proofs.SoundPacks.{sound-packs}
-use Rattle.server.specs.Serve.{SetUp, setUp, served, unserved, holding, packedAgain, serveIn, serve}
+use Rattle.server.specs.Serve.{SetUp, setUp, served, unserved, holding, packedAgain, serveIn, serveAs}
 
 -- ---- what an unpacked series tells ----
 
@@ -58,38 +60,38 @@ stored-holds state s l = ap (λ (b : Bool). cond (b && packsSeries s) (seriesByt
 
 -- ---- one message ----
 
-module _ (state message room : List ℕ) where
-  pub serve-short : length room < 31920 → unserved 10 state room ≡ serve state message room
-  unfolding serve
-  serve-short h = sym (ap (λ (b : Bool). cond b (unserved 10 state room) (serveIn state message room (unpackSeries state))) (lt-ltb (length room) 31920 h))
+module _ (state : List ℕ) (event : Option Event) (room : List ℕ) where
+  pub serve-short : length room < roomSize → unserved 10 state room ≡ serveAs state event room
+  unfolding serveAs
+  serve-short h = sym (ap (λ (b : Bool). cond b (unserved 10 state room) (serveIn state event room (unpackSeries state))) (lt-ltb (length room) roomSize h))
 
-  module _ (space : 31920 ≤ length room) (u : Unpacked) (is : u ≡ unpacked (unpackSeries state)) where
-    inside : serve state message room ≡ serveIn state message room (unpackSeries state)
-    unfolding serve
-    inside = ap (λ (b : Bool). cond b (unserved 10 state room) (serveIn state message room (unpackSeries state))) (le-ltb (length room) 31920 space)
+  module _ (space : roomSize ≤ length room) (u : Unpacked) (is : u ≡ unpacked (unpackSeries state)) where
+    inside : serveAs state event room ≡ serveIn state event room (unpackSeries state)
+    unfolding serveAs
+    inside = ap (λ (b : Bool). cond b (unserved 10 state room) (serveIn state event room (unpackSeries state))) (le-ltb (length room) roomSize space)
 
-    pub serve-none : u .ok ≡ false → unserved 11 state room ≡ serve state message room
+    pub serve-none : u .ok ≡ false → unserved 11 state room ≡ serveAs state event room
     serve-none h =
-        sym (inside ∙ ap (serveIn state message room) (holds-none (unpackSeries state) (sym (ap (λ (x : Unpacked). x .ok) is) ∙ h)))
+        sym (inside ∙ ap (serveIn state event room) (holds-none (unpackSeries state) (sym (ap (λ (x : Unpacked). x .ok) is) ∙ h)))
 
-    module _ (ok : u .ok ≡ true) (r : Answer) (after : List ℕ) (answer : inRoom r after ≡ handled (u .series) message room) where
+    module _ (ok : u .ok ≡ true) (r : Answer) (after : List ℕ) (answer : inRoom r after ≡ handledAs (u .series) event room) where
       held : unpackSeries state ≡ some (u .series)
       held =
           holds-some (unpackSeries state) (sym (ap (λ (x : Unpacked). x .ok) is) ∙ ok)
           ∙ ap some (sym (ap (λ (x : Unpacked). x .series) is))
 
-      again : packedAgain state (inRoom r after) ≡ serve state message room
-      again = ap (packedAgain state) answer ∙ sym (inside ∙ ap (serveIn state message room) held)
+      again : packedAgain state (inRoom r after) ≡ serveAs state event room
+      again = ap (packedAgain state) answer ∙ sym (inside ∙ ap (serveIn state event room) held)
 
-      pub serve-refused : (r .refusal ≡ 0 → ⊥) → Bytes state → served (r .refusal) 0 state after ≡ serve state message room
+      pub serve-refused : (r .refusal ≡ 0 → ⊥) → Bytes state → served (r .refusal) 0 state after ≡ serveAs state event room
       serve-refused h b =
           let kept : Unchanged (u .series) room (inRoom r after) =
-          subst⁻¹ (Unchanged (u .series) room) answer (refusals-keep (u .series) message room (λ k. h (ap (λ (x : Handled). x .answer .refusal) answer ∙ k))) in
+          subst⁻¹ (Unchanged (u .series) room) answer (refusals-keep-as (u .series) event room (λ k. h (ap (λ (x : Handled). x .answer .refusal) answer ∙ k))) in
           let same : holding state (packSeries (r .series)) ≡ state =
           ap (λ (s : Series). holding state (packSeries s)) (kept .series) ∙ ap (holding state) (series-pack state (u .series) b held) in
           sym (λ i. served (r .refusal) (kept .count i) (same i) after) ∙ again
 
-      pub serve-accepted : r .refusal ≡ 0 → (out : List ℕ) → out ≡ bufferAfter state (r .series) → served 0 (r .count) out after ≡ serve state message room
+      pub serve-accepted : r .refusal ≡ 0 → (out : List ℕ) → out ≡ bufferAfter state (r .series) → served 0 (r .count) out after ≡ serveAs state event room
       serve-accepted z out o =
           let same : out ≡ holding state (packSeries (r .series)) = o ∙ stored-holds state (r .series) (state-long state (u .series) held) in
           let zero : _≡_ {A = ℕ} 0 (r .refusal) = sym z in

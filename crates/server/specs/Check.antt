@@ -27,5 +27,8 @@ faultOf m (some e) = firstHolding (faults m (askOf e))
 
 -- WHICH OF THE REFUSALS 1 TO 4 a series with this M gives the message, 0 for none of them; 11 for an M that is not 1, 5 or 10, since no
 -- sound series has it
+unfoldable pub checkAs : Option Event → ℕ → ℕ
+checkAs event m = cond (mpv m) (faultOf m event) 11
+
 unfoldable pub check : List ℕ → ℕ → ℕ
-check message m = cond (mpv m) (faultOf m (unpackOf messages message)) 11
+check message m = checkAs (unpackOf messages message) m

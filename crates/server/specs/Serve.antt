@@ -7,10 +7,13 @@ use mathlib.Core.Option.{Option, none, some}
 use lib.Dec.{eqb, ltb}
 use lib.ListN.{length}
 use Rattle.packing.specs.declared.setup.Setup.{Setup}
-use Rattle.packing.specs.Codec.{nothing}
+use Rattle.packing.specs.declared.message.Event.{Event}
+use Rattle.packing.specs.Codec.{nothing, unpackOf}
+use Rattle.packing.specs.Message.{messages}
+use Rattle.packing.specs.Room.{roomSize}
 use Rattle.series.specs.declared.Series.{Series}
 use Rattle.series.specs.Series.{newSeries}
-use Rattle.handler.specs.Handle.{Handled, handled}
+use Rattle.handler.specs.Handle.{Handled, handledAs}
 use Rattle.series_buffer.specs.State.{unpackSeries, seriesBytes, packSeries}
 
 -- the number answered, and what the lent buffers then hold
@@ -45,10 +48,13 @@ holding state (some bytes) = bytes
 abbrev pub packedAgain : List ℕ → Handled → Served
 packedAgain state h = served (h .answer .refusal) (h .answer .count) (holding state (packSeries (h .answer .series))) (h .room)
 
-abbrev pub serveIn : List ℕ → List ℕ → List ℕ → Option Series → Served
-serveIn state message room none = unserved 11 state room
-serveIn state message room (some s) = packedAgain state (handled s message room)
+abbrev pub serveIn : List ℕ → Option Event → List ℕ → Option Series → Served
+serveIn state event room none = unserved 11 state room
+serveIn state event room (some s) = packedAgain state (handledAs s event room)
 
--- ONE MESSAGE. 10: "report room under 31,920 bytes"; 11: the buffer holds no series, or an unsound one; then the handler's refusals, in its order
+-- ONE MESSAGE, by what it unpacks to. 10: "report room under 31,920 bytes"; 11: the buffer holds no series, or an unsound one; then the handler's refusals, in its order
+unfoldable pub serveAs : List ℕ → Option Event → List ℕ → Served
+serveAs state event room = cond (ltb (length room) roomSize) (unserved 10 state room) (serveIn state event room (unpackSeries state))
+
 unfoldable pub serve : List ℕ → List ℕ → List ℕ → Served
-serve state message room = cond (ltb (length room) 31920) (unserved 10 state room) (serveIn state message room (unpackSeries state))
+serve state message room = serveAs state (unpackOf messages message) room

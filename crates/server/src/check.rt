@@ -11,20 +11,27 @@ use prices::step::is_mpv;
 ghost use mathlib.Core.Path.{_≡_};
 ghost use mathlib.Core.Bool.{true};
 ghost use Rattle.prices.specs.Step.{mpv};
-ghost use Rattle.packing.specs.Message.{messageAt};
+ghost use Rattle.packing.specs.Message.{messageAt, eventIn, saidBy};
 ghost use Rattle.handler.specs.Asked.{askOf};
 ghost use Rattle.handler.specs.Refuse.{firstHolding};
-ghost use Rattle.server.specs.Check.{isMessage, faults, check};
+ghost use Rattle.server.specs.Check.{isMessage, faults, checkAs, check};
+
+// The number of an unpacker's answer: 0 for a message, 1 for none.
+fn number_of(read: Unpacked) -> u32
+    ensures { λ r. ⌜ r ≡ saidBy read .0 ⌝ }
+{
+    match read {
+        Unpacked::Message(_) => 0,
+        Unpacked::Nothing => 1,
+    }
+}
 
 // 0 for a message, 1 for none.
 #[no_mangle]
 pub extern "C" fn waxglimmer_is_message(message: &[u8]) -> u32
     ensures { λ r. ⌜ r ≡ isMessage (now (message .entry)) ⌝ }
 {
-    let Unpacked::Message(_) = unpack(message) else {
-        return 1;
-    };
-    0
+    number_of(unpack(message))
 }
 
 // The same of the bytes at a place of a run.
@@ -32,10 +39,7 @@ pub extern "C" fn waxglimmer_is_message(message: &[u8]) -> u32
 pub extern "C" fn waxglimmer_is_message_at(run: &[u8], at: usize) -> u32
     ensures { λ r. ⌜ r ≡ isMessage (messageAt (now (run .entry)) at) ⌝ }
 {
-    let Unpacked::Message(_) = unpack_at(run, at) else {
-        return 1;
-    };
-    0
+    number_of(unpack_at(run, at))
 }
 
 // The first of refusals 2, 3 and 4 that an event meets, 0 where it meets none.
@@ -56,18 +60,24 @@ fn fault_of(m: u32, event: Event) -> u32
     0
 }
 
-// Which of the refusals 1 to 4 a series with this M gives the message, 0 for none of them; 11 where no sound series has this M.
-#[no_mangle]
-pub extern "C" fn waxglimmer_check(message: &[u8], m: u32) -> u32
-    ensures { λ r. ⌜ r ≡ check (now (message .entry)) m ⌝ }
+// Which of the refusals 1 to 4 a series with this M gives what a message unpacks to, 0 for none of them; 11 where no sound series has this M.
+fn check_read(read: Unpacked, m: u32) -> u32
+    ensures { λ r. ⌜ r ≡ checkAs (eventIn read) m ⌝ }
 {
     if !is_mpv(m) {
         return 11;
     }
-    let Unpacked::Message(event) = unpack(message) else {
+    let Unpacked::Message(event) = read else {
         return 1;
     };
     fault_of(m, event)
+}
+
+#[no_mangle]
+pub extern "C" fn waxglimmer_check(message: &[u8], m: u32) -> u32
+    ensures { λ r. ⌜ r ≡ check (now (message .entry)) m ⌝ }
+{
+    check_read(unpack(message), m)
 }
 
 // The same of the bytes at a place of a run.
@@ -75,11 +85,5 @@ pub extern "C" fn waxglimmer_check(message: &[u8], m: u32) -> u32
 pub extern "C" fn waxglimmer_check_at(run: &[u8], at: usize, m: u32) -> u32
     ensures { λ r. ⌜ r ≡ check (messageAt (now (run .entry)) at) m ⌝ }
 {
-    if !is_mpv(m) {
-        return 11;
-    }
-    let Unpacked::Message(event) = unpack_at(run, at) else {
-        return 1;
-    };
-    fault_of(m, event)
+    check_read(unpack_at(run, at), m)
 }

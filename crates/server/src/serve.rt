@@ -1,14 +1,17 @@
 // The whole handler for a caller who keeps the series in a buffer of 1,564 bytes (crate state has its layout) and lends a report room.
-use handler::handle::handle;
-use handler::handle::handle_at;
+use handler::handle::handle_read;
+use packing::message::Unpacked;
+use packing::message::unpack;
+use packing::message::unpack_at;
+use packing::room::ROOM;
 use series::open::open_series;
 use series_buffer::whole::pack_series;
 use series_buffer::whole::unpack_series;
 ghost use mathlib.Core.Path.{_≡_};
 ghost use Rattle.packing.specs.Codec.{unpackOf};
 ghost use Rattle.packing.specs.Setup.{setups};
-ghost use Rattle.packing.specs.Message.{messageAt};
-ghost use Rattle.server.specs.Serve.{SetUp, setUp, served, serve};
+ghost use Rattle.packing.specs.Message.{messageAt, eventIn};
+ghost use Rattle.server.specs.Serve.{SetUp, setUp, served, serveAs, serve};
 
 // Sets up a new series in the buffer and answers 0; 1 or 11, and the buffer as it was.
 #[no_mangle]
@@ -26,8 +29,32 @@ pub extern "C" fn waxglimmer_setup(setup: &[u8], state: &mut [u8]) -> u32
     11
 }
 
-// Answers a message: the refusal's number with every lent byte as it was and count 0; or 0, the series afterwards in the buffer, and its counted
-// reports at the front of the room.
+// Answers what a message unpacks to: the refusal's number with every lent byte as it was and count 0; or 0, the series afterwards in the buffer, and
+// its counted reports at the front of the room.
+fn serve_read(state: &mut [u8], read: Unpacked, room: &mut [u8], count: &mut usize) -> u32
+    ensures { λ r. ⌜ served r (now (count .exit)) (now (state .exit)) (now (room .exit)) ≡ serveAs (now (state .entry)) (eventIn read) (now (room .entry)) ⌝ }
+{
+    *count = 0;
+    if room.len() < ROOM {
+        return 10;
+    }
+    let held = unpack_series(state);
+    if !held.ok {
+        return 11;
+    }
+    let series = held.series;
+    let answer = handle_read(series, read, room);
+    let why = answer.refusal;
+    if why != 0 {
+        return why;
+    }
+    let after = answer.series;
+    pack_series(after, state);
+    *count = answer.count;
+    0
+}
+
+// Answers a message.
 #[no_mangle]
 pub extern "C" fn waxglimmer_handle(
     state: &mut [u8],
@@ -37,24 +64,8 @@ pub extern "C" fn waxglimmer_handle(
 ) -> u32
     ensures { λ r. ⌜ served r (now (count .exit)) (now (state .exit)) (now (room .exit)) ≡ serve (now (state .entry)) (now (message .entry)) (now (room .entry)) ⌝ }
 {
-    *count = 0;
-    if room.len() < 31920 {
-        return 10;
-    }
-    let held = unpack_series(state);
-    if !held.ok {
-        return 11;
-    }
-    let series = held.series;
-    let answer = handle(series, message, room);
-    let why = answer.refusal;
-    if why != 0 {
-        return why;
-    }
-    let after = answer.series;
-    pack_series(after, state);
-    *count = answer.count;
-    0
+    let read = unpack(message);
+    serve_read(state, read, room, count)
 }
 
 // The same of a message where it stands in a run.
@@ -68,22 +79,6 @@ pub extern "C" fn waxglimmer_handle_at(
 ) -> u32
     ensures { λ r. ⌜ served r (now (count .exit)) (now (state .exit)) (now (room .exit)) ≡ serve (now (state .entry)) (messageAt (now (run .entry)) at) (now (room .entry)) ⌝ }
 {
-    *count = 0;
-    if room.len() < 31920 {
-        return 10;
-    }
-    let held = unpack_series(state);
-    if !held.ok {
-        return 11;
-    }
-    let series = held.series;
-    let answer = handle_at(series, run, at, room);
-    let why = answer.refusal;
-    if why != 0 {
-        return why;
-    }
-    let after = answer.series;
-    pack_series(after, state);
-    *count = answer.count;
-    0
+    let read = unpack_at(run, at);
+    serve_read(state, read, room, count)
 }

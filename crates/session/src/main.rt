@@ -6,6 +6,7 @@ use input::fill;
 use input::keep;
 use libc::STDOUT_FILENO;
 use lines::line::answer_lines;
+use packing::room::ROOM;
 use series::Series;
 use series::open::open_series;
 ghost use Prim.Native.Nat.{_≤_};
@@ -108,7 +109,7 @@ fn ready(input: &mut [u8], at: usize, held: usize, out: &[u8], used: usize) -> P
 fn run(start: Series, input: &mut [u8], first: usize, count: usize, out: &mut [u8])
     requires { ⌜ (first ≤ count) × (count ≤ length (now input)) × (length (now input) ≤ 65536) ⌝ }
 {
-    let mut room = [0u8; 31920];
+    let mut room = [0u8; ROOM];
     let mut series = start;
     let mut number: u64 = 1;
     let mut at = first;

@@ -13,7 +13,7 @@ use Rattle.lists.proofs.PlaceLaws.{at-last}
 use Rattle.packing.specs.declared.report.Report.{Report}
 use Rattle.packing.proofs.ReportLaws.{traded-packs, repriced-packs}
 use Rattle.book.specs.declared.Entry.{Entry}
-use Rattle.book.specs.Entries.{priced}
+use Rattle.book.specs.Entries.{priced, lastNumber}
 use Rattle.soundness_theory.proofs.Facts.{EntryFacts, Sound}
 use Rattle.soundness_theory.proofs.KeepLaws.{here-facts}
 use Rattle.telling.specs.Tell.{traded, repriced}
@@ -21,7 +21,7 @@ use Rattle.telling.proofs.PackLaws.{Packs}
 use Rattle.settling_theory.specs.Settle.{easedPrices}
 use Rattle.settling_theory.proofs.Shapes.{restPrices, EaseStep, eased-at, StirStep, traded-at, moved-at}
 
-module _ {m top : ℕ} (few : top ≤ 1000000) where
+module _ {m top : ℕ} (few : top ≤ lastNumber) where
   pub repriced-fits : (e : Entry) (p : Prices) → EntryFacts m top (priced p e) → Packs (repriced (priced p e))
   repriced-fits e p f =
       repriced-packs (e .sell) (e .party) (e .number) (e .quantity) (omega (arith, f .party-high)) (omega (arith, f .given)) (omega (arith, f .most))

@@ -16,6 +16,7 @@ use Rattle.lists.proofs.RunLaws.{few, ran-complete, complete-stop, complete-kee
 use Rattle.packing.specs.declared.report.Report.{Report}
 use Rattle.packing.specs.Room.{AllPack}
 use Rattle.book.specs.declared.Entry.{Entry}
+use Rattle.book.specs.Entries.{lastNumber}
 use Rattle.soundness_theory.specs.Sound.{soundEntries}
 use Rattle.soundness_theory.proofs.Facts.{Sound}
 use Rattle.soundness_theory.proofs.SoundFacts.{sound-is}
@@ -46,7 +47,7 @@ pub record Settled (k : Market) (l : List Entry) (top : ℕ) : Type 0 where
   pub steps : 2 * length (settled k l .records) ≤ length l * (length l + 5)
   pub fewer : length (settled k l .final) ≤ length l
   -- the reports fit the room's fields
-  pub fit : top ≤ 1000000 → AllPack (settled k l .records)
+  pub fit : top ≤ lastNumber → AllPack (settled k l .records)
   -- it is the one whole run of easing, and behind it the one whole run of trades and moves
   pub easing-run : Complete (nextEase k) l (eased k l .records) (eased k l .final)
   pub stirring-run : Complete (nextStir k) (eased k l .final) (stirred k (eased k l .final) .records) (settled k l .final)
@@ -95,7 +96,7 @@ module _ (k : Market) (top : ℕ) (mk : MarketFacts k) (l : List Entry) (so : So
       let l₁ : List Entry = eased k l .final in
       omega (arith, few (nextStir k) (stirrings k) l₁, count-le (stirring k l₁) l₁, length-one, ap triangle length-one)
 
-  fit-both : top ≤ 1000000 → AllPack (eased k l .records ++ stirred k (eased k l .final) .records)
+  fit-both : top ≤ lastNumber → AllPack (eased k l .records ++ stirred k (eased k l .final) .records)
   fit-both few =
       pack-append (eased k l .records) (stirred k (eased k l .final) .records)
       (all-pack (eased k l .records)

@@ -8,12 +8,13 @@ use native.Mathlib.Omega.{arith}
 use borrow.Author.Tests.{ltb-true, ltb-false, lt-ltb, le-ltb, eqb-true, eqb-false, ne-eqb}
 use lib.Dec.{eqb, ltb}
 use Rattle.prices.specs.Side.{nearer, meek}
+use Rattle.prices.specs.Step.{topPrice}
 use Rattle.lists.specs.Choose.{scan}
 use Rattle.book.specs.declared.Entry.{Entry}
 use Rattle.book.specs.Look.{nearest, facing}
 use Rattle.book.proofs.OfferLaws.{best-alone, best-nearer, best-one}
 use Rattle.book.proofs.LookLaws.{nearest-tells, nearest-offered}
-use Rattle.soundness.specs.Summary.{higherPrice, lowerPrice, offerKey, offerOf, buysAt, sellsAt}
+use Rattle.soundness.specs.Summary.{higherPrice, lowerPrice, offerKey, offerOf, buysAt, sellsAt, noOffer}
 use Rattle.soundness.proofs.PairLaws.{scan-snoc}
 
 -- one more entry, as the price that a side faces has it
@@ -49,7 +50,7 @@ pub held-some : (p : ℕ) → 1 ≤ p → offerKey p ≡ p
 unfolding offerKey
 held-some p h = rw (ne-eqb p 0 (λ e. omega arith))
 
-lower-nearer : (p q : ℕ) → p ≤ 100000 → q ≤ 100000 → lowerPrice (offerKey p) (offerKey q) ≡ offerKey (nearer false p q)
+lower-nearer : (p q : ℕ) → p ≤ topPrice → q ≤ topPrice → lowerPrice (offerKey p) (offerKey q) ≡ offerKey (nearer false p q)
 unfolding offerKey nearer meek
 lower-nearer p q a b = go (eqb p 0) refl (eqb q 0) refl
   where
@@ -58,10 +59,10 @@ lower-nearer p q a b = go (eqb p 0) refl (eqb q 0) refl
     both false h = omega (arith, ltb-false p q h)
 
     go : (x : Bool) → eqb p 0 ≡ x → (y : Bool) → eqb q 0 ≡ y
-        → lowerPrice (cond x 1000000 p) (cond y 1000000 q) ≡ cond (eqb (cond x q (cond y p (min p q))) 0) 1000000 (cond x q (cond y p (min p q)))
+        → lowerPrice (cond x noOffer p) (cond y noOffer q) ≡ cond (eqb (cond x q (cond y p (min p q))) 0) noOffer (cond x q (cond y p (min p q)))
     go true f true g = rw g
-    go true f false g = rw (g, le-ltb 1000000 q (omega arith))
-    go false f true g = rw (f, lt-ltb p 1000000 (omega arith))
+    go true f false g = rw (g, le-ltb noOffer q (omega arith))
+    go false f true g = rw (f, lt-ltb p noOffer (omega arith))
     go false f false g =
         let some : eqb (min p q) 0 ≡ false = ne-eqb (min p q) 0 (λ e. none e (eqb-false p 0 f) (eqb-false q 0 g)) in
         rw some (both (ltb p q) refl)
@@ -73,11 +74,11 @@ lower-nearer p q a b = go (eqb p 0) refl (eqb q 0) refl
             one true h = u (omega (arith, ltb-true p q h))
             one false h = v (omega (arith, ltb-false p q h))
 
-lower-high : (p q : ℕ) → p ≤ 100000 → q ≤ 100000 → nearer false p q ≤ 100000
+lower-high : (p q : ℕ) → p ≤ topPrice → q ≤ topPrice → nearer false p q ≤ topPrice
 unfolding nearer meek
 lower-high p q a b = go (eqb p 0) (eqb q 0)
   where
-    go : (x y : Bool) → cond x q (cond y p (min p q)) ≤ 100000
+    go : (x y : Bool) → cond x q (cond y p (min p q)) ≤ topPrice
     go true y = b
     go false true = a
     go false false = omega arith
@@ -85,13 +86,13 @@ lower-high p q a b = go (eqb p 0) (eqb q 0)
 -- p holds the lowest price of the sells
 pub record Lowest (price : Entry → ℕ) (l : List Entry) (p : ℕ) : Type 0 where
   pub holds : p ≡ offerKey (nearest price false 0 l)
-  pub high : nearest price false 0 l ≤ 100000
+  pub high : nearest price false 0 l ≤ topPrice
 
-pub lowest-none : (price : Entry → ℕ) → Lowest price [] 1000000
+pub lowest-none : (price : Entry → ℕ) → Lowest price [] noOffer
 unfolding nearest scan offerKey
 lowest-none price = record { holds = refl; high = omega arith }
 
-pub lowest-more : (price : Entry → ℕ) (l : List Entry) (e : Entry) (p : ℕ) → Lowest price l p → price e ≤ 100000
+pub lowest-more : (price : Entry → ℕ) (l : List Entry) (e : Entry) (p : ℕ) → Lowest price l p → price e ≤ topPrice
     → Lowest price (l ++ (e ∷ [])) (lowerPrice p (sellsAt (e .sell) (offerKey (price e))))
 unfolding offerKey
 lowest-more price l e p h high = rw (h .holds) (record {
@@ -102,15 +103,15 @@ lowest-more price l e p h high = rw (h .holds) (record {
     q : ℕ
     q = nearest price false 0 l
 
-    stays : (b : Bool) → eqb q 0 ≡ b → lowerPrice (cond b 1000000 q) 1000000 ≡ cond b 1000000 q
+    stays : (b : Bool) → eqb q 0 ≡ b → lowerPrice (cond b noOffer q) noOffer ≡ cond b noOffer q
     stays true f = refl
-    stays false f = rw (lt-ltb q 1000000 (omega (arith, h .high)))
+    stays false f = rw (lt-ltb q noOffer (omega (arith, h .high)))
 
     side : (s : Bool) → lowerPrice (offerKey q) (sellsAt s (offerKey (price e))) ≡ offerKey (cond (Bool·beq s true) (nearer false q (price e)) q)
     side true = lower-nearer q (price e) (h .high) high
     side false = stays (eqb q 0) refl
 
-    low : (s : Bool) → cond (Bool·beq s true) (nearer false q (price e)) q ≤ 100000
+    low : (s : Bool) → cond (Bool·beq s true) (nearer false q (price e)) q ≤ topPrice
     low true = lower-high q (price e) (h .high) high
     low false = h .high
 
@@ -118,9 +119,9 @@ pub lowest-told : (price : Entry → ℕ) (l : List Entry) (p : ℕ) → Lowest 
 unfolding offerKey offerOf
 lowest-told price l p h = rw (h .holds) (go (eqb (nearest price false 0 l) 0) refl)
   where
-    go : (b : Bool) → eqb (nearest price false 0 l) 0 ≡ b → offerOf (cond b 1000000 (nearest price false 0 l)) ≡ nearest price false 0 l
+    go : (b : Bool) → eqb (nearest price false 0 l) 0 ≡ b → offerOf (cond b noOffer (nearest price false 0 l)) ≡ nearest price false 0 l
     go true f = sym (eqb-true (nearest price false 0 l) 0 f)
-    go false f = rw (ne-eqb (nearest price false 0 l) 1000000 (λ e. omega (arith, h .high)))
+    go false f = rw (ne-eqb (nearest price false 0 l) noOffer (λ e. omega (arith, h .high)))
 
 -- ---- reading on from a price is the nearer of it and what is read from none: both are the best of what is on offer ----
 

@@ -6,7 +6,7 @@ use mathlib.Core.Bool.{Bool, true, false, cond, not, _&&_, _||_}
 use native.Mathlib.Omega.{arith}
 use borrow.Author.Tests.{leb-true, eqb-true}
 use lib.Dec.{eqb, leb}
-use Rattle.prices.specs.Step.{mpv, legal, back}
+use Rattle.prices.specs.Step.{mpv, legal, back, topPrice}
 use Rattle.prices.specs.Side.{reaches}
 use Rattle.kinds.specs.Kinds.{sliding, dark}
 use Rattle.prices.specs.Rest.{slides}
@@ -78,14 +78,14 @@ module _ (m given : ℕ) (e : Entry) (c : Clauses m given e) where
   pub works : mpv m ≡ true → 1 ≤ e .working
   works v = positive (is-mpv m v) (is-legal m (e .working) works-legal)
 
-  pub works-high : e .working ≤ 100000
+  pub works-high : e .working ≤ topPrice
   works-high = is-legal m (e .working) works-legal .high
 
-  pub shows-high : display e ≤ 100000
+  pub shows-high : display e ≤ topPrice
   unfolding pricedAs slides
   shows-high = by (e .pricing) (c .price)
     where
-      by : (p : Pricing) → pricedAs m (e .kind) (e .sell) (e .limit) (e .working) p ≡ true → shownAs (e .limit) p ≤ 100000
+      by : (p : Pricing) → pricedAs m (e .kind) (e .sell) (e .limit) (e .working) p ≡ true → shownAs (e .limit) p ≤ topPrice
       by Fixed h = is-legal m (e .limit) limit-legal .high
       by Dark h = omega arith
       by (Sliding d) h =

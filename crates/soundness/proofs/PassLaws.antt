@@ -23,7 +23,7 @@ use Rattle.book.specs.Look.{contra, national, nearest, working}
 use Rattle.soundness_theory.specs.Sound.{soundEntry, distinct, oneQuote, uncrossed, soundPair, soundEntries}
 use Rattle.soundness.specs.declared.Check.{Check}
 use Rattle.soundness.specs.declared.Best.{Best}
-use Rattle.soundness.specs.Summary.{seatOf, Seated, lowerPrice, offerOf, sellsAt, better, bestApart, unsound, finding, Passed}
+use Rattle.soundness.specs.Summary.{seatOf, Seated, lowerPrice, offerOf, sellsAt, better, bestApart, unsound, finding, Passed, noOffer}
 use Rattle.soundness.proofs.PairLaws.{contrary, pairs-and, pairs-snoc-is, pairs-front, all-snoc-is, all-front, any-snoc-is, map-snoc, new-decided}
 use Rattle.soundness.proofs.SpreadLaws.{spread-decides}
 use Rattle.soundness.proofs.ClauseLaws.{clauses-of, works, works-high, shows-high}
@@ -181,7 +181,7 @@ pub record Reading (m given : ℕ) (es : List Entry) (n : ℕ) (best : Best) (nu
   pub so-far : Gathered m given (take i es) best numbers seats
 
 pub read-start : (m given : ℕ) (es : List Entry) (n : ℕ)
-    → Reading m given es n (record { top = 0; bid = 0; offer = 1000000; shownbid = 0; shownoffer = 1000000; quoted = false }) (replicate 64 0) (replicate 33 false) 0
+    → Reading m given es n (record { top = 0; bid = 0; offer = noOffer; shownbid = 0; shownoffer = noOffer; quoted = false }) (replicate 64 0) (replicate 33 false) 0
 unfolding all any pairs nearest scan
 read-start m given es n = record {
   within = omega arith;

@@ -49,19 +49,22 @@ higherPrice p q = cond (ltb p q) q p
 abbrev pub lowerPrice : ℕ → ℕ → ℕ
 lowerPrice p q = cond (ltb p q) p q
 
--- while the entries are read, 1,000,000 stands for no offer, so that the lowest is a minimum; and back
+-- while the entries are read, a number above all prices stands for no offer, so that the lowest is a minimum; and back
+abbrev pub noOffer : ℕ
+noOffer = 1000000
+
 unfoldable pub offerKey : ℕ → ℕ
-offerKey p = cond (eqb p 0) 1000000 p
+offerKey p = cond (eqb p 0) noOffer p
 
 unfoldable pub offerOf : ℕ → ℕ
-offerOf p = cond (eqb p 1000000) 0 p
+offerOf p = cond (eqb p noOffer) 0 p
 
 -- the price of an entry of side s, for the highest buy and the lowest sell
 abbrev pub buysAt : Bool → ℕ → ℕ
 buysAt s p = cond s 0 p
 
 abbrev pub sellsAt : Bool → ℕ → ℕ
-sellsAt s p = cond s p 1000000
+sellsAt s p = cond s p noOffer
 
 -- one more entry: the highest number, the best prices, the displays without the dark ones, and whether a quote was met
 abbrev pub better : Best → Entry → Best

@@ -12,6 +12,9 @@ ghost use lib.Dec.{eqb, ltb};
 ghost use Rattle.lists.specs.Tests.{any};
 ghost use Rattle.soundness.specs.Summary.{seat, seatOf, higherPrice, lowerPrice, buysAt, sellsAt, offerKey, offerOf, better, bestApart, unsound, faced, facedShown};
 
+// Above all prices: while the entries are read, it stands for no offer.
+pub const NO_OFFER: u32 = 1000000;
+
 // The answer for a book that is not sound.
 pub fn broken() -> Check
     ensures { λ r. ⌜ r ≡ unsound ⌝ }
@@ -49,21 +52,21 @@ fn buys_at(e: Entry, p: u32) -> u32
 fn sells_at(e: Entry, p: u32) -> u32
     ensures { λ r. ⌜ r ≡ sellsAt (e .sell) p ⌝ }
 {
-    if e.sell { p } else { 1000000 }
+    if e.sell { p } else { NO_OFFER }
 }
 
 // A dark entry shows no price, and so no lower one than any other.
 fn held_of(p: u32) -> u32
     ensures { λ r. ⌜ r ≡ offerKey p ⌝ }
 {
-    if p == 0 { 1000000 } else { p }
+    if p == 0 { NO_OFFER } else { p }
 }
 
 // The lowest price, 0 for none.
 pub fn lowest_of(p: u32) -> u32
     ensures { λ r. ⌜ r ≡ offerOf p ⌝ }
 {
-    if p == 1000000 { 0 } else { p }
+    if p == NO_OFFER { 0 } else { p }
 }
 
 // One more entry. By minima and maxima, which cost no branch: the sides of a book come in no order.

@@ -20,8 +20,8 @@ pub struct Check {
     pub seats: [bool; 33],
 }
 
-// The best prices of the entries read so far, the highest entry number, and whether a quote is among them. An offer of 1,000,000, which is
-// above all prices, is none.
+// The best prices of the entries read so far, the highest entry number, and whether a quote is among them. An offer of
+// `NO_OFFER`, which is above all prices, is none.
 pub struct Best {
     pub top: u32,
     pub bid: u32,

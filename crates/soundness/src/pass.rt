@@ -3,6 +3,7 @@ use crate::Best;
 use crate::Check;
 use crate::clauses::is_sound_entry;
 use crate::clauses::is_unused;
+use crate::figures::NO_OFFER;
 use crate::figures::bettered;
 use crate::figures::broken;
 use crate::figures::is_apart;
@@ -42,9 +43,9 @@ pub fn check_resting(b: Book, m: u32, given: u32) -> Check
     let mut best = Best {
         top: 0,
         bid: 0,
-        offer: 1000000,
+        offer: NO_OFFER,
         shownbid: 0,
-        shownoffer: 1000000,
+        shownoffer: NO_OFFER,
         quoted: false,
     };
     let mut numbers = [0u32; 64];

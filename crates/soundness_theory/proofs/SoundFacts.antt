@@ -7,7 +7,7 @@ use mathlib.Core.List.{List, [], _∷_}
 use native.Mathlib.Omega.{arith}
 use lib.Dec.{eqb, leb}
 use borrow.Author.Tests.{leb-true, le-leb, ltb-true, lt-ltb, eqb-true, eqb-false, eq-eqb, ne-eqb, not-true}
-use Rattle.prices.specs.Step.{mpv, legal}
+use Rattle.prices.specs.Step.{mpv, legal, topPrice}
 use Rattle.kinds.specs.Kinds.{sliding, dark}
 use Rattle.prices.specs.Rest.{slides}
 use Rattle.prices.proofs.FrameLaws.{seen, Facing}
@@ -103,7 +103,7 @@ module _ (m top : ℕ) (e : Entry) where
 
 -- ---- two entries ----
 
-clear-facts : (s t : Bool) (p q : ℕ) → p ≤ 100000 → q ≤ 100000 → uncrossedAs s t p q ≡ true → Facing s t → seen s p < seen s q
+clear-facts : (s t : Bool) (p q : ℕ) → p ≤ topPrice → q ≤ topPrice → uncrossedAs s t p q ≡ true → Facing s t → seen s p < seen s q
 unfolding seen
 clear-facts false false p q a b h f = clash f refl
 clear-facts false true p q a b h f = ltb-true p q h
@@ -118,7 +118,7 @@ facts-clear true false p q c = lt-ltb q p (omega (arith, c refl))
 facts-clear true true p q c = refl
 
 module _ (x y : Entry) where
-  pub pair-facts : x .working ≤ 100000 → y .working ≤ 100000 → soundPair x y ≡ true → PairFacts x y
+  pub pair-facts : x .working ≤ topPrice → y .working ≤ topPrice → soundPair x y ≡ true → PairFacts x y
   unfolding soundPair
   pair-facts wx wy h =
       let a = and-parts (distinct x y) (oneQuote x y && uncrossed x y) h in

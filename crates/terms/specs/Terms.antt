@@ -9,10 +9,6 @@ use Rattle.terms.specs.declared.Terms.{Terms}
 abbrev pub topUnderlying : ℕ
 topUnderlying = 100000
 
--- "Entry numbers run 1 to 1,000,000"
-abbrev pub lastNumber : ℕ
-lastNumber = 1000000
-
 abbrev pub marketOf : Terms → Market
 marketOf t = record { m = t .m; bid = t .bid; offer = t .offer }
 

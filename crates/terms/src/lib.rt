@@ -18,10 +18,8 @@ pub struct Terms {
     pub given: u32,
 }
 
-// The highest underlying price, and the last entry number.
+// The highest underlying price.
 pub const TOP_UNDERLYING: u32 = 100000;
-
-pub const LAST_NUMBER: u32 = 1000000;
 
 pub fn market_of(t: Terms) -> Market
     ensures { λ r. ⌜ r ≡ marketOf t ⌝ }

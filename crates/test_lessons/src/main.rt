@@ -5,6 +5,7 @@ use handler::handle::handle_at;
 use libc::STDIN_FILENO;
 use libc::STDOUT_FILENO;
 use lines::line::answer_lines;
+use packing::room::ROOM;
 use series::Series;
 use series::open::open_series;
 use test_reading::number_at;
@@ -113,7 +114,7 @@ fn play_all(bundle: &[u8], room: &mut [u8], out: &mut [u8]) {
 
 fn main() {
     let mut bundle = [0u8; 262144];
-    let mut room = [0u8; 31920];
+    let mut room = [0u8; ROOM];
     let mut out = [0u8; 273600];
     let n = io::read_full(STDIN_FILENO, &mut bundle);
     play_all(&bundle[..n], &mut room, &mut out);
