@@ -40,27 +40,35 @@ ownEntry party number e = eqb (e .number) number && eqb (e .party) party
 abbrev pub quoteOf : ℕ → Bool → Entry → Bool
 quoteOf party s e = quote e && (eqb (e .party) party && Bool·beq (e .sell) s)
 
--- the entry with q contracts less, and at other prices
-abbrev pub lessened : ℕ → Entry → Entry
-lessened q e = record {
+-- the entry with another quantity, all else as it was
+abbrev pub withQuantity : ℕ → Entry → Entry
+withQuantity q e = record {
   number = e .number;
   party = e .party;
   kind = e .kind;
   sell = e .sell;
   limit = e .limit;
-  quantity = e .quantity - q;
+  quantity = q;
   working = e .working;
   pricing = e .pricing;
 }
 
-abbrev pub priced : Prices → Entry → Entry
-priced p e = record {
+-- the entry at another working price, and priced otherwise
+abbrev pub withPrices : ℕ → Pricing → Entry → Entry
+withPrices w p e = record {
   number = e .number;
   party = e .party;
   kind = e .kind;
   sell = e .sell;
   limit = e .limit;
   quantity = e .quantity;
-  working = p .working;
-  pricing = Sliding (p .display);
+  working = w;
+  pricing = p;
 }
+
+-- with q contracts less, and at other prices, one of them shown
+abbrev pub lessened : ℕ → Entry → Entry
+lessened q e = withQuantity (e .quantity - q) e
+
+abbrev pub priced : Prices → Entry → Entry
+priced p e = withPrices (p .working) (Sliding (p .display)) e
