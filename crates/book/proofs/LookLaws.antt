@@ -19,7 +19,7 @@ use Rattle.lists.proofs.Bools.{clash}
 use Rattle.book.specs.declared.Entry.{Entry}
 use Rattle.book.specs.declared.Least.{Least}
 use Rattle.book.specs.Entries.{display, displayed, against, ownEntry, quoteOf}
-use Rattle.book.specs.Look.{rankOf, rankHeld, lowerKey, cost, priority, eligible, bestContra, working, facing, nearest, contra, national, entryOf, quoteIn, lowest}
+use Rattle.book.specs.Look.{noKey, rankOf, rankHeld, lowerKey, cost, priority, eligible, bestContra, working, facing, nearest, contra, national, entryOf, quoteIn, lowest}
 use Rattle.book.proofs.OfferLaws.{Best, Alone, best-alone, best-nearer, best-same}
 
 -- THE BEST CONTRA ENTRY has the best price of all that are eligible; of those at its price none is displayed unless it is; and of those that
@@ -169,19 +169,19 @@ abbrev pub First : (Entry → Bool) → List Entry → ℕ → Entry → Type 0
 First test l i e = Chosen test number l i e
 
 -- what a scan holds at its end is the rank it answers
-pub held-rank : {key : Entry → ℕ} {f : Found Entry} {k at : ℕ} → Held 1099511627776 key f k at → rankHeld (record { key = k; at = at }) ≡ rankOf f
+pub held-rank : {key : Entry → ℕ} {f : Found Entry} {k at : ℕ} → Held noKey key f k at → rankHeld (record { key = k; at = at }) ≡ rankOf f
 held-rank nothing = refl
-held-rank {key} (something {i = i} {x = x} l) = rw (lt-ltb (key x) 1099511627776 l)
+held-rank {key} (something {i = i} {x = x} l) = rw (lt-ltb (key x) noKey l)
 
 -- the turn of a scan, as its loop has it
 pub lower-turn : {key : Entry → ℕ} {test : Entry → Bool} {es : List Entry} {n i : ℕ} (held : Least) (d : Entry) (t : Least)
-    → Lowering 1099511627776 test key es n (held .key) (held .at) i → n ≤ length es → i < n
-    → (test (getD es i d) ≡ true → key (getD es i d) < 1099511627776) → t ≡ lowerKey held i (keyed 1099511627776 test key (getD es i d))
-    → Lowering 1099511627776 test key es n (t .key) (t .at) (i + 1)
-lower-turn {key} {test} {es} {n} {i} held d t v fits inside small e = rw e (go (ltb (keyed 1099511627776 test key (getD es i d)) (held .key)) refl)
+    → Lowering noKey test key es n (held .key) (held .at) i → n ≤ length es → i < n
+    → (test (getD es i d) ≡ true → key (getD es i d) < noKey) → t ≡ lowerKey held i (keyed noKey test key (getD es i d))
+    → Lowering noKey test key es n (t .key) (t .at) (i + 1)
+lower-turn {key} {test} {es} {n} {i} held d t v fits inside small e = rw e (go (ltb (keyed noKey test key (getD es i d)) (held .key)) refl)
   where
-    go : (b : Bool) → ltb (keyed 1099511627776 test key (getD es i d)) (held .key) ≡ b
-        → Lowering 1099511627776 test key es n ((cond b (record { key = keyed 1099511627776 test key (getD es i d); at = i }) held) .key)
-        ((cond b (record { key = keyed 1099511627776 test key (getD es i d); at = i }) held) .at) (i + 1)
-    go true q = lower-taken d v fits inside small (ltb-true (keyed 1099511627776 test key (getD es i d)) (held .key) q)
-    go false q = lower-kept d v fits inside small (ltb-false (keyed 1099511627776 test key (getD es i d)) (held .key) q)
+    go : (b : Bool) → ltb (keyed noKey test key (getD es i d)) (held .key) ≡ b
+        → Lowering noKey test key es n ((cond b (record { key = keyed noKey test key (getD es i d); at = i }) held) .key)
+        ((cond b (record { key = keyed noKey test key (getD es i d); at = i }) held) .at) (i + 1)
+    go true q = lower-taken d v fits inside small (ltb-true (keyed noKey test key (getD es i d)) (held .key) q)
+    go false q = lower-kept d v fits inside small (ltb-false (keyed noKey test key (getD es i d)) (held .key) q)

@@ -13,7 +13,7 @@ use Rattle.book.specs.declared.Entry.{Entry}
 use Rattle.book.specs.declared.Book.{Book}
 use Rattle.book.specs.declared.Rank.the-variants.{At, Nowhere}
 use Rattle.book.specs.Shape.{zeroEntry, entriesOf, WellFormed, Place}
-use Rattle.book.specs.Look.{rankOf}
+use Rattle.book.specs.Look.{noKey, rankOf}
 use Rattle.book.proofs.ShapeLaws.{length-entries, entry-at}
 
 pub rank-none : (f : Found Entry) → Nowhere ≡ rankOf f → f ≡ nowhere
@@ -47,6 +47,6 @@ module _ (b : Book) (w : WellFormed b) (f : Found Entry) (i : ℕ) (r : Ranked (
   ranked-chosen test key t = subst (Tells test key (entriesOf b)) ranked-found t
 
 -- the key of an entry that a search by number weighs
-pub key-is : (test : Entry → Bool) (e : Entry) {passes : Bool} (key : ℕ) → key ≡ cond passes (e .number) 1099511627776 → passes ≡ test e
-    → key ≡ keyed 1099511627776 test (λ (x : Entry). x .number) e
-key-is test e key p q = p ∙ ap (λ (t : Bool). cond t (e .number) 1099511627776) q
+pub key-is : (test : Entry → Bool) (e : Entry) {passes : Bool} (key : ℕ) → key ≡ cond passes (e .number) noKey → passes ≡ test e
+    → key ≡ keyed noKey test (λ (x : Entry). x .number) e
+key-is test e key p q = p ∙ ap (λ (t : Bool). cond t (e .number) noKey) q

@@ -38,13 +38,17 @@ eligible s shownOnly e = against s e && (not shownOnly || displayed e)
 unfoldable pub bestContra : Bool → Bool → List Entry → Found Entry
 bestContra s shownOnly l = first (eligible s shownOnly) (lesser (priority s)) l
 
+-- above all keys (2^40), for none: prices and entry numbers fit 32 bits
+abbrev pub noKey : ℕ
+noKey = 1099511627776
+
 -- a turn of a scan for it: a lesser key takes its place
 abbrev pub lowerKey : Least → ℕ → ℕ → Least
 lowerKey held at key = cond (ltb key (held .key)) (record { key = key; at = at }) held
 
--- 2^40 stands above all keys, for none
+-- its end: a key below `noKey` was met
 abbrev pub rankHeld : Least → Rank
-rankHeld held = cond (ltb (held .key) 1099511627776) (At (held .at)) Nowhere
+rankHeld held = cond (ltb (held .key) noKey) (At (held .at)) Nowhere
 
 -- ---- the prices that a side faces, 0 for none ----
 

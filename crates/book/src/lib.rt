@@ -40,7 +40,7 @@ pub enum Rank {
     Nowhere,
 }
 
-// The least key that a scan has met, and where: 2^40 stands for none.
+// The least key that a scan has met, and where: `look::NO_KEY` stands for none.
 pub struct Least {
     pub key: u64,
     pub at: usize,

@@ -12,9 +12,12 @@ ghost use mathlib.Core.Path.{_≡_};
 ghost use mathlib.Core.Bool.{true, cond};
 ghost use Prim.Native.Nat.{_<_};
 ghost use Rattle.book.specs.Shape.{entriesOf, WellFormed};
-ghost use Rattle.book.specs.Look.{cost, priority, eligible, bestContra, rankOf, lowerKey, rankHeld, working, facing, hidden, hiddenWithin};
+ghost use Rattle.book.specs.Look.{noKey, cost, priority, eligible, bestContra, rankOf, lowerKey, rankHeld, working, facing, hidden, hiddenWithin};
 ghost use Rattle.book.specs.Entries.{displayed};
 ghost use Rattle.lists.specs.Choose.{keyed};
+
+// Above all keys, for none.
+pub const NO_KEY: u64 = 1099511627776;
 
 // What a price costs a taker: less is better.
 pub fn cost_of(sell: bool, p: u32) -> u32
@@ -38,7 +41,7 @@ fn hidden_of(e: Entry) -> u64
 
 // Who trades first: the least.
 pub fn priority_of(sell: bool, e: Entry) -> u64
-    ensures { λ r. ⌜ (r ≡ priority sell e) × (r < 1099511627776) ⌝ }
+    ensures { λ r. ⌜ (r ≡ priority sell e) × (r < noKey) ⌝ }
 {
     let price = wide(cost_of(sell, e.working));
     2 * price + hidden_of(e)
@@ -62,22 +65,22 @@ pub fn lower_of(held: Least, at: usize, key: u64) -> Least
 
 // By entry number: the key of an entry that passes, and one above all keys for the others.
 pub fn number_key(passes: bool, e: Entry) -> u64
-    ensures { λ r. ⌜ (r ≡ cond passes (e .number) 1099511627776) × (e .number < 1099511627776) ⌝ }
+    ensures { λ r. ⌜ (r ≡ cond passes (e .number) noKey) × (e .number < noKey) ⌝ }
 {
     let number = e.number as u64;
     if passes {
         return number;
     }
-    1099511627776
+    NO_KEY
 }
 
 fn contra_key(sell: bool, shown: bool, e: Entry) -> u64
-    ensures { λ r. ⌜ (r ≡ keyed 1099511627776 (eligible sell shown) (priority sell) e) × (eligible sell shown e ≡ true → priority sell e < 1099511627776) ⌝ }
+    ensures { λ r. ⌜ (r ≡ keyed noKey (eligible sell shown) (priority sell) e) × (eligible sell shown e ≡ true → priority sell e < noKey) ⌝ }
 {
     if is_eligible(sell, shown, e) {
         return priority_of(sell, e);
     }
-    1099511627776
+    NO_KEY
 }
 
 // The one best contra entry for a taker.
@@ -87,7 +90,7 @@ pub fn best_contra(b: Book, sell: bool, shown: bool) -> Rank
 {
     let n = b.count;
     let mut held = Least {
-        key: 1099511627776,
+        key: NO_KEY,
         at: 0,
     };
     let mut i = 0usize;
@@ -103,7 +106,7 @@ pub fn best_contra(b: Book, sell: bool, shown: bool) -> Rank
 pub fn rank_of(held: Least) -> Rank
     ensures { λ r. ⌜ r ≡ rankHeld held ⌝ }
 {
-    if held.key < 1099511627776 {
+    if held.key < NO_KEY {
         return Rank::At(held.at);
     }
     Rank::Nowhere

@@ -1,6 +1,6 @@
 use Rattle.book.proofs.LookLaws.{lower-turn, held-rank}
 use Rattle.book.specs.Shape.{zeroEntry, entriesOf}
-use Rattle.book.specs.Look.{lowerKey, eligible, priority, bestContra}
+use Rattle.book.specs.Look.{noKey, lowerKey, eligible, priority, bestContra}
 use Rattle.lists.proofs.LoopLaws.{Lowering, lower-start, lower-done}
 use native.Mathlib.Omega.{arith}
 use mathlib.Core.Path.{ap, _∙_}
@@ -10,7 +10,7 @@ use Rattle.book.proofs.look.best_contra.Statement.{statement}
 use Rattle.book.proofs.look.best_contra.Tie as tie
 
 abbrev Inv-loop : tie.InvT-loop
-Inv-loop sell shown b n held₀ i₀ held i = Lowering 1099511627776 (eligible sell shown) (priority sell) (b .entries) n (held .key) (held .at) i
+Inv-loop sell shown b n held₀ i₀ held i = Lowering noKey (eligible sell shown) (priority sell) (b .entries) n (held .key) (held .at) i
 
 abbrev μ-loop : tie.MeasureT-loop
 μ-loop sell shown b n held₀ i₀ held i = n - i
