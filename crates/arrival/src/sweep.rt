@@ -2,12 +2,11 @@
 use crate::cancel::cut_at;
 use book::Book;
 use book::Entry;
-use book::Least;
 use book::Rank;
 use book::entries::is_quote;
-use book::look::lower_of;
-use book::look::number_key;
+use book::look::nobody;
 use book::look::rank_of;
+use book::look::sooner;
 ghost use mathlib.Core.Path.{_≡_};
 ghost use Rattle.book.specs.Shape.{entriesOf, WellFormed};
 ghost use Rattle.book.specs.Look.{rankOf, lowest};
@@ -32,15 +31,11 @@ fn first_swept(b: Book, phase: u32) -> Rank
     ensures { λ r. ⌜ r ≡ rankOf (lowest (swept phase) (entriesOf b)) ⌝ }
 {
     let n = b.count;
-    let mut held = Least {
-        key: 1099511627776,
-        at: 0,
-    };
+    let mut held = nobody();
     let mut i = 0usize;
     while i < n {
         let e = b.entries[i];
-        let key = number_key(is_swept(phase, e), e);
-        held = lower_of(held, i, key);
+        held = sooner(held, i, is_swept(phase, e), e);
         i += 1;
     }
     rank_of(held)

@@ -2,4 +2,5 @@ pub mod ShapeLaws
 pub mod ChangeLaws
 pub mod OfferLaws
 pub mod LookLaws
+pub mod NumberLaws
 pub mod RankLaws

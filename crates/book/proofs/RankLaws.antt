@@ -2,18 +2,18 @@
 -- Assumes nothing.
 use Prim.Native.Nat.{ℕ, _<_}
 use mathlib.Core.Path.{_≡_, refl, subst, ap, _∙_}
-use mathlib.Core.Bool.{Bool, cond}
+use mathlib.Core.Bool.{Bool}
 use mathlib.Core.List.{List}
 use native.Mathlib.Omega.{arith}
 use lib.ListN.{length, getD}
-use Rattle.lists.specs.Choose.{Found, nowhere, found, keyed}
+use Rattle.lists.specs.Choose.{Found, nowhere, found}
 use Rattle.lists.proofs.PlaceLaws.{at-same, at-inside, at-getD}
 use Rattle.lists.proofs.ChooseLaws.{Chosen, Tells}
 use Rattle.book.specs.declared.Entry.{Entry}
 use Rattle.book.specs.declared.Book.{Book}
 use Rattle.book.specs.declared.Rank.the-variants.{At, Nowhere}
 use Rattle.book.specs.Shape.{zeroEntry, entriesOf, WellFormed, Place}
-use Rattle.book.specs.Look.{noKey, rankOf}
+use Rattle.book.specs.Look.{rankOf}
 use Rattle.book.proofs.ShapeLaws.{length-entries, entry-at}
 
 pub rank-none : (f : Found Entry) → Nowhere ≡ rankOf f → f ≡ nowhere
@@ -45,8 +45,3 @@ module _ (b : Book) (w : WellFormed b) (f : Found Entry) (i : ℕ) (r : Ranked (
 
   pub ranked-chosen : (test : Entry → Bool) (key : Entry → ℕ) → Tells test key (entriesOf b) f → Chosen test key (entriesOf b) i (getD (b .entries) i zeroEntry)
   ranked-chosen test key t = subst (Tells test key (entriesOf b)) ranked-found t
-
--- the key of an entry that a search by number weighs
-pub key-is : (test : Entry → Bool) (e : Entry) {passes : Bool} (key : ℕ) → key ≡ cond passes (e .number) noKey → passes ≡ test e
-    → key ≡ keyed noKey test (λ (x : Entry). x .number) e
-key-is test e key p q = p ∙ ap (λ (t : Bool). cond t (e .number) noKey) q

@@ -1,6 +1,7 @@
 -- Who trades first, and which prices a side faces.
 -- Assumes nothing.
-use Prim.Native.Nat.{ℕ, _+_, _-_, _*_}
+use Prim.Native.Nat.{ℕ, _+_, _-_, _*_, _<_}
+use mathlib.Core.Path.{_≡_}
 use mathlib.Core.Bool.{Bool, true, false, cond, not, _&&_, _||_}
 use mathlib.Core.List.{List}
 use lib.Dec.{ltb}
@@ -46,7 +47,10 @@ noKey = 1099511627776
 abbrev pub lowerKey : Least → ℕ → ℕ → Least
 lowerKey held at key = cond (ltb key (held .key)) (record { key = key; at = at }) held
 
--- its end: a key below `noKey` was met
+-- its start, which has met nobody, and its end: a key below `noKey` was met
+abbrev pub noneMet : Least
+noneMet = record { key = noKey; at = 0 }
+
 abbrev pub rankHeld : Least → Rank
 rankHeld held = cond (ltb (held .key) noKey) (At (held .at)) Nowhere
 
@@ -88,3 +92,8 @@ quoteIn party s l = first (quoteOf party s) never l
 -- "the first .. by entry number" of those that pass a test
 unfoldable pub lowest : (Entry → Bool) → List Entry → Found Entry
 lowest test l = first test (lesser (λ (e : Entry). e .number)) l
+
+-- a turn of a scan for it: r is held behind an entry, which passes or not; entry numbers are keys
+pub record Sooner (held : Least) (at : ℕ) (passes : Bool) (e : Entry) (r : Least) : Type 0 where
+  pub is : r ≡ cond passes (lowerKey held at (e .number)) held
+  pub small : e .number < noKey

@@ -12,7 +12,8 @@ ghost use mathlib.Core.Path.{_≡_};
 ghost use mathlib.Core.Bool.{true, cond};
 ghost use Prim.Native.Nat.{_<_};
 ghost use Rattle.book.specs.Shape.{entriesOf, WellFormed};
-ghost use Rattle.book.specs.Look.{noKey, cost, priority, eligible, bestContra, rankOf, lowerKey, rankHeld, working, facing, hidden, hiddenWithin};
+ghost use Rattle.book.specs.Look.{noKey, cost, priority, eligible, bestContra, rankOf, lowerKey, noneMet, rankHeld, Sooner};
+ghost use Rattle.book.specs.Look.{working, facing, hidden, hiddenWithin};
 ghost use Rattle.book.specs.Entries.{displayed};
 ghost use Rattle.lists.specs.Choose.{keyed};
 
@@ -53,8 +54,15 @@ pub fn is_eligible(sell: bool, shown: bool, e: Entry) -> bool
     is_against(sell, e) & (!shown | is_displayed(e))
 }
 
-// A turn of a scan for the least key.
-pub fn lower_of(held: Least, at: usize, key: u64) -> Least
+// A scan for the least key, before it has met any.
+pub fn nobody() -> Least
+    ensures { λ r. ⌜ r ≡ noneMet ⌝ }
+{
+    Least { key: NO_KEY, at: 0 }
+}
+
+// A turn of it.
+fn lower_of(held: Least, at: usize, key: u64) -> Least
     ensures { λ r. ⌜ r ≡ lowerKey held at key ⌝ }
 {
     if key < held.key {
@@ -63,15 +71,25 @@ pub fn lower_of(held: Least, at: usize, key: u64) -> Least
     held
 }
 
-// By entry number: the key of an entry that passes, and one above all keys for the others.
-pub fn number_key(passes: bool, e: Entry) -> u64
-    ensures { λ r. ⌜ (r ≡ cond passes (e .number) noKey) × (e .number < noKey) ⌝ }
+// Its end: where the least key was met, if any was.
+pub fn rank_of(held: Least) -> Rank
+    ensures { λ r. ⌜ r ≡ rankHeld held ⌝ }
+{
+    if held.key < NO_KEY {
+        return Rank::At(held.at);
+    }
+    Rank::Nowhere
+}
+
+// A turn by entry number, of those that pass alone.
+pub fn sooner(held: Least, at: usize, passes: bool, e: Entry) -> Least
+    ensures { λ r. ⌜ Sooner held at passes e r ⌝ }
 {
     let number = e.number as u64;
     if passes {
-        return number;
+        return lower_of(held, at, number);
     }
-    NO_KEY
+    held
 }
 
 fn contra_key(sell: bool, shown: bool, e: Entry) -> u64
@@ -89,10 +107,7 @@ pub fn best_contra(b: Book, sell: bool, shown: bool) -> Rank
     ensures { λ r. ⌜ r ≡ rankOf (bestContra sell shown (entriesOf b)) ⌝ }
 {
     let n = b.count;
-    let mut held = Least {
-        key: NO_KEY,
-        at: 0,
-    };
+    let mut held = nobody();
     let mut i = 0usize;
     while i < n {
         let key = contra_key(sell, shown, b.entries[i]);
@@ -100,16 +115,6 @@ pub fn best_contra(b: Book, sell: bool, shown: bool) -> Rank
         i += 1;
     }
     rank_of(held)
-}
-
-// Where the least key was met, if any was.
-pub fn rank_of(held: Least) -> Rank
-    ensures { λ r. ⌜ r ≡ rankHeld held ⌝ }
-{
-    if held.key < NO_KEY {
-        return Rank::At(held.at);
-    }
-    Rank::Nowhere
 }
 
 // A turn of a scan for the best working price that a side faces. Dark interest counts.

@@ -1,15 +1,14 @@
 // Easing: quotes that work beyond the away price drop back to it, or to what they show, in entry order.
 use book::Book;
 use book::Entry;
-use book::Least;
 use book::Pricing;
 use book::Rank;
 use book::change::requeued;
 use book::entries::display_of;
 use book::entries::repriced;
-use book::look::lower_of;
-use book::look::number_key;
+use book::look::nobody;
 use book::look::rank_of;
+use book::look::sooner;
 use prices::Market;
 use prices::ease::eased_to;
 use prices::ease::is_easing;
@@ -46,15 +45,11 @@ fn first_easing(b: Book, market: Market) -> Rank
     ensures { λ r. ⌜ r ≡ rankOf (lowest (easing market) (entriesOf b)) ⌝ }
 {
     let n = b.count;
-    let mut held = Least {
-        key: 1099511627776,
-        at: 0,
-    };
+    let mut held = nobody();
     let mut i = 0usize;
     while i < n {
         let e = b.entries[i];
-        let key = number_key(is_entry_easing(market, e), e);
-        held = lower_of(held, i, key);
+        held = sooner(held, i, is_entry_easing(market, e), e);
         i += 1;
     }
     rank_of(held)

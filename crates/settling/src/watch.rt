@@ -1,14 +1,13 @@
 // Who stirs.
 use book::Book;
 use book::Entry;
-use book::Least;
 use book::Pricing;
 use book::Rank;
 use book::entries::kind_of;
 use book::look::contra_turn;
-use book::look::lower_of;
-use book::look::number_key;
+use book::look::nobody;
 use book::look::rank_of;
+use book::look::sooner;
 use prices::Market;
 use prices::rest::is_stirring_at;
 use prices::side::away_of;
@@ -80,15 +79,11 @@ pub fn first_stirring(b: Book, market: Market, own: Market) -> Rank
     ensures { λ r. ⌜ r ≡ rankOf (lowest (stirringBy market own) (entriesOf b)) ⌝ }
 {
     let n = b.count;
-    let mut held = Least {
-        key: 1099511627776,
-        at: 0,
-    };
+    let mut held = nobody();
     let mut i = 0usize;
     while i < n {
         let e = b.entries[i];
-        let key = number_key(is_entry_stirring(market, own, e), e);
-        held = lower_of(held, i, key);
+        held = sooner(held, i, is_entry_stirring(market, own, e), e);
         i += 1;
     }
     rank_of(held)

@@ -15,8 +15,11 @@ Inv-loop sell shown b n held₀ i₀ held i = Lowering noKey (eligible sell show
 abbrev μ-loop : tie.MeasureT-loop
 μ-loop sell shown b n held₀ i₀ held i = n - i
 
+nobody-requires : tie.Need-nobody-requires Inv-loop μ-loop
+nobody-requires c κs = search needs
+
 loop-holds : tie.Need-loop-holds Inv-loop μ-loop
-loop-holds c = lower-start 0
+loop-holds c = rw (c .nobody .ensures) (lower-start 0)
 
 mul-contra-key : tie.Need-mul-contra-key Inv-loop μ-loop
 mul-contra-key c = search needs
@@ -37,14 +40,24 @@ loop-less : tie.Need-loop-less Inv-loop μ-loop
 loop-less c = search needs
 
 loop-again : tie.Need-loop-again Inv-loop μ-loop
-loop-again c = let s = c .before .before .before .before .before in let l = c .before .before .before .before .loop in lower-turn (l .held) zeroEntry (c .lower-of .result) (l .inv) (omega (arith, s .pre .few, s .pre .places)) (c .before .before .before .loop-test .taken) (c .before .contra-key .ensures .1) (c .lower-of .ensures ∙ ap (lowerKey (l .held) (l .i)) (c .before .contra-key .ensures .0))
+loop-again c =
+    let at-key : tie.After-contra-key Inv-loop μ-loop = search in
+    let at-test : tie.In-loop Inv-loop μ-loop = search in
+    let at-loop : tie.At-loop Inv-loop μ-loop = search in
+    let start : tie.Start Inv-loop μ-loop = search in
+    lower-turn (at-loop .loop .held) zeroEntry (c .lower-of .result) (at-loop .loop .inv) (omega (arith, start .pre .few, start .pre .places))
+    (at-test .loop-test .taken) (at-key .contra-key .ensures .1)
+    (c .lower-of .ensures ∙ ap (lowerKey (at-loop .loop .held) (at-loop .loop .i)) (at-key .contra-key .ensures .0))
 
 rank-of-requires : tie.Need-rank-of-requires Inv-loop μ-loop
 rank-of-requires c κs = search needs
 
 returns : tie.Need-returns Inv-loop μ-loop
 unfolding bestContra entriesOf
-returns c = c .rank-of .ensures ∙ held-rank (lower-done (c .before .before .loop .inv) (c .before .loop-test .left))
+returns c =
+    let at-test : tie.After-loop Inv-loop μ-loop = search in
+    let at-loop : tie.At-loop Inv-loop μ-loop = search in
+    c .rank-of .ensures ∙ held-rank (lower-done (at-loop .loop .inv) (at-test .loop-test .left))
 
 pub best-contra-spec : {M : Type 1} → statement M
 best-contra-spec =
@@ -52,6 +65,7 @@ best-contra-spec =
     (tie.spec
     Inv-loop
     μ-loop
+    nobody-requires
     loop-holds
     mul-contra-key
     element-copy-out-contra-key
