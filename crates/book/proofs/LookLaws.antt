@@ -11,15 +11,17 @@ use lib.ListN.{length, getD}
 use borrow.Author.Tests.{lt-ltb, ltb-true, ltb-false}
 use Rattle.prices.specs.Side.{nearer}
 use Rattle.lists.specs.Places.{At}
-use Rattle.lists.specs.Choose.{Found, nowhere, found, keyed}
+use Rattle.lists.specs.Choose.{scan, Found, nowhere, found, keyed}
 use Rattle.lists.proofs.PlaceLaws.{at-left, at-last, at-snoc}
 use Rattle.lists.proofs.ChooseLaws.{scan-says, Nobody, Chosen, Tells, first-tells}
 use Rattle.lists.proofs.LoopLaws.{Held, nothing, something, Lowering, lower-taken, lower-kept}
 use Rattle.lists.proofs.Bools.{clash}
 use Rattle.book.specs.declared.Entry.{Entry}
+use Rattle.book.specs.declared.Front.{Front}
 use Rattle.book.specs.declared.Least.{Least}
 use Rattle.book.specs.Entries.{display, displayed, against, ownEntry, quoteOf}
-use Rattle.book.specs.Look.{noKey, rankOf, rankHeld, lowerKey, cost, priority, eligible, bestContra, working, facing, nearest, contra, national, entryOf, quoteIn, lowest}
+use Rattle.book.specs.Look.{noKey, rankOf, rankHeld, lowerKey, cost, priority, eligible, bestContra, entryOf, quoteIn, lowest}
+use Rattle.book.specs.Look.{working, facing, nearest, contra, frontOf, contraIn, frontTurn, national}
 use Rattle.book.proofs.OfferLaws.{Best, Alone, best-alone, best-nearer, best-same}
 
 -- THE BEST CONTRA ENTRY has the best price of all that are eligible; of those at its price none is displayed unless it is; and of those that
@@ -139,6 +141,30 @@ module _ (price : Entry → ℕ) (s : Bool) where
 -- C, THE BEST WORKING PRICE of the entries that face side s, dark included
 pub contra-price-tells : (s : Bool) (l : List Entry) → Best s (Offered working s l) (contra s l)
 contra-price-tells s l = nearest-offered working s l
+
+-- both of the front's prices, by one scan
+front-apart : (front : Front) (j : ℕ) (l : List Entry)
+    → scan (λ (f : Front) (_ : ℕ) (e : Entry). frontTurn f e) front j l
+    ≡ record {
+      bid = scan (λ (p : ℕ) (_ : ℕ) (e : Entry). facing working true p e) (front .bid) j l;
+      offer = scan (λ (p : ℕ) (_ : ℕ) (e : Entry). facing working false p e) (front .offer) j l;
+    }
+unfolding scan
+front-apart front j [] = refl
+front-apart front j (x ∷ l) = front-apart (frontTurn front x) (j + 1) l
+
+pub front-scanned : (l : List Entry) → scan (λ (f : Front) (_ : ℕ) (e : Entry). frontTurn f e) (record { bid = 0; offer = 0 }) 0 l ≡ frontOf l
+unfolding nearest
+front-scanned l = front-apart (record { bid = 0; offer = 0 }) 0 l
+
+-- it shows each side C
+pub front-faces : (front : Front) (l : List Entry) → front ≡ frontOf l → (s : Bool) → contraIn front s ≡ contra s l
+front-faces front l e false = ap (λ (f : Front). f .offer) e
+front-faces front l e true = ap (λ (f : Front). f .bid) e
+
+pub same-front : {bid bid′ offer offer′ : ℕ} → bid ≡ bid′ → offer ≡ offer′
+    → _≡_ {A = Front} (record { bid = bid; offer = offer }) (record { bid = bid′; offer = offer′ })
+same-front p q = λ i. record { bid = p i; offer = q i }
 
 -- NBO AND NBB, THE BEST of the away price a and of the displays of the entries that face side s
 pub national-tells : (s : Bool) (a : ℕ) (l : List Entry) → Best s (OnOffer display s a l) (national s a l)

@@ -9,6 +9,7 @@ use Rattle.prices.specs.Side.{reaches, nearer}
 use Rattle.lists.specs.Choose.{scan, Found, nowhere, found, first, lesser, never}
 use Rattle.lists.specs.Tests.{any}
 use Rattle.book.specs.declared.Entry.{Entry}
+use Rattle.book.specs.declared.Front.{Front}
 use Rattle.book.specs.declared.Least.{Least}
 use Rattle.book.specs.declared.Rank.{Rank}
 use Rattle.book.specs.declared.Rank.the-variants.{At, Nowhere}
@@ -69,6 +70,19 @@ nearest price s q l = scan (λ (p : ℕ) (_ : ℕ) (e : Entry). facing price s p
 -- "C the lowest working price of any sell in the book, dark included"
 abbrev pub contra : Bool → List Entry → ℕ
 contra s l = nearest working s 0 l
+
+-- both at once: the best working prices that rest
+abbrev pub frontOf : List Entry → Front
+frontOf l = record { bid = contra true l; offer = contra false l }
+
+-- C of a side: to a buy the offer, to a sell the bid
+abbrev pub contraIn : Front → Bool → ℕ
+contraIn front false = front .offer
+contraIn front true = front .bid
+
+-- a turn of the scan for both
+abbrev pub frontTurn : Front → Entry → Front
+frontTurn front e = record { bid = facing working true (front .bid) e; offer = facing working false (front .offer) e }
 
 -- "NBO is the lower of A and the lowest displayed sell price (a sliding entry's display), NBB its mirror."
 abbrev pub national : Bool → ℕ → List Entry → ℕ

@@ -40,6 +40,12 @@ pub enum Rank {
     Nowhere,
 }
 
+// The best working prices that rest: the highest buy and the lowest sell, 0 for none.
+pub struct Front {
+    pub bid: u32,
+    pub offer: u32,
+}
+
 // The least key that a scan has met, and where: `look::NO_KEY` stands for none.
 pub struct Least {
     pub key: u64,

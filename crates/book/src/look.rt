@@ -1,6 +1,7 @@
 // Who trades first, and which prices a side faces.
 use crate::Book;
 use crate::Entry;
+use crate::Front;
 use crate::Least;
 use crate::Rank;
 use crate::entries::is_against;
@@ -13,7 +14,7 @@ ghost use mathlib.Core.Bool.{true, cond};
 ghost use Prim.Native.Nat.{_<_};
 ghost use Rattle.book.specs.Shape.{entriesOf, WellFormed};
 ghost use Rattle.book.specs.Look.{noKey, cost, priority, eligible, bestContra, rankOf, lowerKey, noneMet, rankHeld, Sooner};
-ghost use Rattle.book.specs.Look.{working, facing, hidden, hiddenWithin};
+ghost use Rattle.book.specs.Look.{working, facing, contraIn, frontOf, frontTurn, hidden, hiddenWithin};
 ghost use Rattle.book.specs.Entries.{displayed};
 ghost use Rattle.lists.specs.Choose.{keyed};
 
@@ -118,13 +119,45 @@ pub fn best_contra(b: Book, sell: bool, shown: bool) -> Rank
 }
 
 // A turn of a scan for the best working price that a side faces. Dark interest counts.
-pub fn contra_turn(sell: bool, q: u32, e: Entry) -> u32
+fn contra_turn(sell: bool, q: u32, e: Entry) -> u32
     ensures { λ r. ⌜ r ≡ facing working sell q e ⌝ }
 {
     if is_eligible(sell, false, e) {
         return nearer_of(sell, q, e.working);
     }
     q
+}
+
+// One more entry: the better of what it offers either side and what was seen so far.
+fn front_turn(front: Front, e: Entry) -> Front
+    ensures { λ r. ⌜ r ≡ frontTurn front e ⌝ }
+{
+    Front {
+        bid: contra_turn(true, front.bid, e),
+        offer: contra_turn(false, front.offer, e),
+    }
+}
+
+// The best working prices that rest. Both in one pass, since settling asks at every step.
+pub fn front_of(b: Book) -> Front
+    requires { ⌜ WellFormed b ⌝ }
+    ensures { λ r. ⌜ r ≡ frontOf (entriesOf b) ⌝ }
+{
+    let n = b.count;
+    let mut front = Front { bid: 0, offer: 0 };
+    let mut i = 0usize;
+    while i < n {
+        front = front_turn(front, b.entries[i]);
+        i += 1;
+    }
+    front
+}
+
+// C of a side.
+pub fn contra_of(front: Front, sell: bool) -> u32
+    ensures { λ r. ⌜ r ≡ contraIn front sell ⌝ }
+{
+    if sell { front.bid } else { front.offer }
 }
 
 pub fn is_hidden(sell: bool, limit: u32, e: Entry) -> bool

@@ -1,4 +1,4 @@
--- The code's figures for one entry are the definitions': its own prices, what it aims at, whether it is marketable, and what it becomes.
+-- The code's figures for one entry are the definitions': what it aims at, whether it is marketable, and what it becomes.
 -- Assumes nothing.
 use Prim.Native.Nat.{ℕ}
 use mathlib.Core.Path.{_≡_, refl, sym, subst, ap, _∙_}
@@ -18,19 +18,20 @@ use Rattle.lists.specs.Run.{go}
 use Rattle.lists.proofs.Bools.{and-left}
 use Rattle.book.specs.declared.Entry.{Entry}
 use Rattle.book.specs.declared.Book.{Book}
+use Rattle.book.specs.declared.Front.{Front}
 use Rattle.book.specs.Entries.{display, priced}
 use Rattle.book.specs.Shape.{entriesOf}
-use Rattle.book.specs.Look.{contra, bestContra}
+use Rattle.book.specs.Look.{contra, frontOf, contraIn, bestContra}
+use Rattle.book.proofs.LookLaws.{front-faces}
 use Rattle.soundness_theory.proofs.FrontLaws.{given-contra}
 use Rattle.telling.specs.Tell.{repriced}
 use Rattle.soundness_theory.specs.SoundMarket.{soundMarket}
 use Rattle.telling.specs.Stage.{Staged, alone}
 use Rattle.settling_theory.specs.Settle.{easedPrices, aimsIn, tradeAt, reprice, tradeOrMove, stirAt}
-use Rattle.settling.specs.Turns.{entryIn, ownMarket, Judged, Watched, Turn, tradeStep, StirTurn}
+use Rattle.settling.specs.Turns.{entryIn, Judged, Watched, Turn, tradeStep, StirTurn}
 use Rattle.settling_theory.proofs.Shapes.{restPrices, marketableIn}
 use Rattle.soundness_theory.proofs.MarketFacts.{sound-for}
 use Rattle.telling.proofs.StageLaws.{staged-step, roomy-step}
-use Rattle.settling.proofs.RankLaws.{own-faces}
 
 -- a turn with a new entry, by another name
 pub turn-entry : {b : Book} {i n : ℕ} {room : List ℕ} (e x : Entry) → e ≡ x → Turn b i room n (repriced x ∷ []) → Turn b i room n (repriced e ∷ [])
@@ -51,20 +52,20 @@ eased-entry k e e′ p q r s = s ∙ ap (λ (z : Prices). priced z e) (same-pric
 
 -- ---- trades and moves ----
 
-pub watched-bounds : {k own : Market} {b : Book} → Watched k own b → Judged k own
+pub watched-bounds : {k : Market} {front : Front} {b : Book} → Watched k front b → Judged k front
 unfolding soundMarket
-watched-bounds {k} {own} {b} w = record {
+watched-bounds {k} {front} {b} w = record {
   bounds = λ s. record {
     step = and-left (mpv (k .m)) (noneOrLegal (k .m) (k .bid) && noneOrLegal (k .m) (k .offer)) (w .sound .market);
     away = given-is (sound-for (w .sound) .0 .given s);
-    contra = rw (own-faces k own (entriesOf b) (w .known) s) (given-is (given-contra s (sound-for (w .sound) .1)));
+    contra = rw (front-faces front (entriesOf b) (w .known) s) (given-is (given-contra s (sound-for (w .sound) .1)));
   };
 }
 
-module _ (k own : Market) (b : Book) (known : own ≡ ownMarket k (entriesOf b)) (e : Entry) {a c kind : ℕ}
-    (ha : a ≡ away k (e .sell)) (hc : c ≡ away own (e .sell)) (hk : kind ≡ e .kind) where
+module _ (k : Market) (front : Front) (b : Book) (known : front ≡ frontOf (entriesOf b)) (e : Entry) {a c kind : ℕ}
+    (ha : a ≡ away k (e .sell)) (hc : c ≡ contraIn front (e .sell)) (hk : kind ≡ e .kind) where
   faces : c ≡ contra (e .sell) (entriesOf b)
-  faces = hc ∙ own-faces k own (entriesOf b) known (e .sell)
+  faces = hc ∙ front-faces front (entriesOf b) known (e .sell)
 
   pub aims-are : (p : Prices) → p ≡ aims (k .m) kind (e .sell) (e .limit) a c → p ≡ aimsIn k (entriesOf b) e
   aims-are p h = h ∙ rw (hk, ha, faces) refl
@@ -87,12 +88,12 @@ module _ (k : Market) (l : List Entry) (i : ℕ) (e : Entry) where
 
 -- ---- the turn of an entry that stirs, by the code's figures for it ----
 
-module _ {k own : Market} {b : Book} {i n : ℕ} {room : List ℕ} (turn : StirTurn k own b i room n) {a c kind : ℕ} (p : Prices) (t : Bool)
-    (ha : a ≡ away k (entryIn b i .sell)) (hc : c ≡ away own (entryIn b i .sell)) (hk : kind ≡ entryIn b i .kind)
+module _ {k : Market} {front : Front} {b : Book} {i n : ℕ} {room : List ℕ} (turn : StirTurn k front b i room n) {a c kind : ℕ} (p : Prices) (t : Bool)
+    (ha : a ≡ away k (entryIn b i .sell)) (hc : c ≡ contraIn front (entryIn b i .sell)) (hk : kind ≡ entryIn b i .kind)
     (hp : p ≡ aims (k .m) kind (entryIn b i .sell) (entryIn b i .limit) a c)
     (ht : t ≡ marketable kind (entryIn b i .sell) c p) where
   judged : t ≡ marketableIn k (entriesOf b) (entryIn b i)
-  judged = market-is k own b (turn .watched .known) (entryIn b i) ha hc hk p t hp ht
+  judged = market-is k front b (turn .watched .known) (entryIn b i) ha hc hk p t hp ht
 
   module _ (yes : t ≡ true) where
     trades : stirAt k (entriesOf b) (found i (entryIn b i)) ≡ tradeStep b i
@@ -111,7 +112,7 @@ module _ {k own : Market} {b : Book} {i n : ℕ} {room : List ℕ} (turn : StirT
     rests = stir-rests k (entriesOf b) i (entryIn b i) (sym judged ∙ no)
 
     becomes : e′ ≡ priced (restPrices k (entriesOf b) (entryIn b i)) (entryIn b i)
-    becomes = rest-entry k own b (turn .watched .known) (entryIn b i) ha hc hk p r e′ hp hd hr he
+    becomes = rest-entry k front b (turn .watched .known) (entryIn b i) ha hc hk p r e′ hp hd hr he
 
     pub move-turn : Turn b i room n (repriced e′ ∷ [])
     move-turn =

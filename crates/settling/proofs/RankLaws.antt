@@ -1,27 +1,27 @@
 -- The searches of settling, by the ranks that they answered: who is eased, who stirs, and whom it trades with.
 -- Assumes nothing.
-use Prim.Native.Nat.{ℕ, _+_}
-use mathlib.Core.Path.{_≡_, refl, sym, subst, ap, _∙_, fun-ext}
+use Prim.Native.Nat.{ℕ}
+use mathlib.Core.Path.{_≡_, sym, subst, ap, _∙_, fun-ext}
 use mathlib.Core.Bool.{Bool, true, false}
-use mathlib.Core.List.{List, [], _∷_}
+use mathlib.Core.List.{List}
 use Rattle.prices.specs.declared.Market.{Market}
-use Rattle.prices.specs.Side.{away}
 use Rattle.lists.specs.Places.{At}
-use Rattle.lists.specs.Choose.{scan, found}
+use Rattle.lists.specs.Choose.{found}
 use Rattle.lists.specs.Run.{stop}
 use Rattle.lists.proofs.Bools.{and-left}
 use Rattle.lists.proofs.ChooseLaws.{Chosen, Tells}
 use Rattle.book.specs.declared.Entry.{Entry}
 use Rattle.book.specs.declared.Book.{Book}
+use Rattle.book.specs.declared.Front.{Front}
 use Rattle.book.specs.declared.Rank.the-variants as rank
 use Rattle.book.specs.Entries.{against}
 use Rattle.book.specs.Shape.{entriesOf, WellFormed, Place, TwoPlaces}
-use Rattle.book.specs.Look.{rankOf, eligible, priority, working, facing, nearest, contra, bestContra, lowest}
-use Rattle.book.proofs.LookLaws.{best-tells, lowest-tells, number}
+use Rattle.book.specs.Look.{rankOf, eligible, priority, frontOf, bestContra, lowest}
+use Rattle.book.proofs.LookLaws.{best-tells, front-faces, lowest-tells, number}
 use Rattle.book.proofs.RankLaws.{Ranked, rank-none, rank-at, ranked-place, ranked-found, ranked-chosen}
 use Rattle.soundness_theory.proofs.KeepLaws.{never-facing}
 use Rattle.settling_theory.specs.Settle.{easing, easeAt, nextEase, stirringAs, stirring, tradeAt, stirAt, nextStir}
-use Rattle.settling.specs.Turns.{entryIn, ownMarket, ownTurn, stirringBy, tradeStep}
+use Rattle.settling.specs.Turns.{entryIn, stirringBy, tradeStep}
 
 -- what a search by entry number tells of the rank that it answered
 pub record Lowest (test : Entry → Bool) (b : Book) (i : ℕ) : Type 0 where
@@ -55,43 +55,22 @@ module _ (k : Market) (b : Book) (w : WellFormed b) where
 
 -- ---- trades and moves ----
 
--- one scan for both of the book's own prices is a scan for each
-own-apart : (own : Market) (j : ℕ) (l : List Entry)
-    → scan (λ (o : Market) (_ : ℕ) (e : Entry). ownTurn o e) own j l
-    ≡ record {
-      m = own .m;
-      bid = scan (λ (p : ℕ) (_ : ℕ) (e : Entry). facing working true p e) (own .bid) j l;
-      offer = scan (λ (p : ℕ) (_ : ℕ) (e : Entry). facing working false p e) (own .offer) j l;
-    }
-unfolding scan
-own-apart own j [] = refl
-own-apart own j (x ∷ l) = own-apart (ownTurn own x) (j + 1) l
+pub stirring-is : (k : Market) (front : Front) (l : List Entry) → front ≡ frontOf l → (e : Entry) → stirringBy k front e ≡ stirring k l e
+stirring-is k front l h e = ap (λ (c : ℕ). stirringAs k c e (e .pricing)) (front-faces front l h (e .sell))
 
-pub own-scanned : (k : Market) (l : List Entry)
-    → scan (λ (o : Market) (_ : ℕ) (e : Entry). ownTurn o e) (record { m = k .m; bid = 0; offer = 0 }) 0 l ≡ ownMarket k l
-unfolding nearest
-own-scanned k l = own-apart (record { m = k .m; bid = 0; offer = 0 }) 0 l
+module _ (k : Market) (front : Front) (b : Book) (w : WellFormed b) (known : front ≡ frontOf (entriesOf b)) where
+  stirring-all : lowest (stirringBy k front) (entriesOf b) ≡ lowest (stirring k (entriesOf b)) (entriesOf b)
+  stirring-all = ap (λ (t : Entry → Bool). lowest t (entriesOf b)) (fun-ext (λ e. stirring-is k front (entriesOf b) known e))
 
--- the book's own market shows each side what it faces
-pub own-faces : (k own : Market) (l : List Entry) → own ≡ ownMarket k l → (s : Bool) → away own s ≡ contra s l
-own-faces k own l e false = ap (λ (o : Market). o .offer) e
-own-faces k own l e true = ap (λ (o : Market). o .bid) e
-
-pub stirring-is : (k own : Market) (l : List Entry) → own ≡ ownMarket k l → (e : Entry) → stirringBy k own e ≡ stirring k l e
-stirring-is k own l h e = ap (λ (c : ℕ). stirringAs k c e (e .pricing)) (own-faces k own l h (e .sell))
-
-module _ (k own : Market) (b : Book) (w : WellFormed b) (known : own ≡ ownMarket k (entriesOf b)) where
-  stirring-all : lowest (stirringBy k own) (entriesOf b) ≡ lowest (stirring k (entriesOf b)) (entriesOf b)
-  stirring-all = ap (λ (t : Entry → Bool). lowest t (entriesOf b)) (fun-ext (λ e. stirring-is k own (entriesOf b) known e))
-
-  pub stir-lowest : (i : ℕ) → rank.At i ≡ rankOf (lowest (stirringBy k own) (entriesOf b)) → Lowest (stirring k (entriesOf b)) b i
+  pub stir-lowest : (i : ℕ) → rank.At i ≡ rankOf (lowest (stirringBy k front) (entriesOf b)) → Lowest (stirring k (entriesOf b)) b i
   stir-lowest i e = lowest-at (stirring k (entriesOf b)) b w i (e ∙ ap rankOf stirring-all)
 
-  pub stir-at-is : (i : ℕ) → rank.At i ≡ rankOf (lowest (stirringBy k own) (entriesOf b)) → nextStir k (entriesOf b) ≡ stirAt k (entriesOf b) (found i (entryIn b i))
+  pub stir-at-is : (i : ℕ) → rank.At i ≡ rankOf (lowest (stirringBy k front) (entriesOf b))
+      → nextStir k (entriesOf b) ≡ stirAt k (entriesOf b) (found i (entryIn b i))
   unfolding nextStir
   stir-at-is i e = ap (stirAt k (entriesOf b)) (stir-lowest i e .is)
 
-  pub stir-none-is : rank.Nowhere ≡ rankOf (lowest (stirringBy k own) (entriesOf b)) → nextStir k (entriesOf b) ≡ stop
+  pub stir-none-is : rank.Nowhere ≡ rankOf (lowest (stirringBy k front) (entriesOf b)) → nextStir k (entriesOf b) ≡ stop
   unfolding nextStir
   stir-none-is e =
       ap (stirAt k (entriesOf b)) (rank-none (lowest (stirring k (entriesOf b)) (entriesOf b)) (e ∙ ap rankOf stirring-all))
@@ -115,7 +94,8 @@ module _ (b : Book) (i : ℕ) (p : Place b i) where
       one = p .inside;
       two = ranked-place b (p .well) (bestContra (entryIn b i .sell) false (entriesOf b)) j ranked .inside;
       apart = λ h. never-facing (entryIn b i .sell)
-          (subst (λ (z : Entry). against (entryIn b i .sell) z ≡ true) (ap (entryIn b) (sym h)) (and-left (against (entryIn b i .sell) (entryIn b j)) true (chosen .passes)));
+          (subst (λ (z : Entry). against (entryIn b i .sell) z ≡ true) (ap (entryIn b) (sym h))
+          (and-left (against (entryIn b i .sell) (entryIn b j)) true (chosen .passes)));
     }
 
     pub trade-is : tradeStep b i ≡ tradeAt (entriesOf b) i (entryIn b i) (found j (entryIn b j))
@@ -123,7 +103,3 @@ module _ (b : Book) (i : ℕ) (p : Place b i) where
 
   pub trade-none : rank.Nowhere ≡ rankOf (bestContra (entryIn b i .sell) false (entriesOf b)) → tradeStep b i ≡ stop
   trade-none e = ap (tradeAt (entriesOf b) i (entryIn b i)) (rank-none (bestContra (entryIn b i .sell) false (entriesOf b)) e)
-
-pub same-market : {m bid bid′ offer offer′ : ℕ} → bid ≡ bid′ → offer ≡ offer′
-    → _≡_ {A = Market} (record { m = m; bid = bid; offer = offer }) (record { m = m; bid = bid′; offer = offer′ })
-same-market {m} p q = λ i. record { m = m; bid = p i; offer = q i }

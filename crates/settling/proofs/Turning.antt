@@ -6,13 +6,14 @@ use mathlib.Core.List.{List}
 use Rattle.prices.specs.declared.Market.{Market}
 use Rattle.lists.specs.Choose.{found}
 use Rattle.book.specs.declared.Book.{Book}
+use Rattle.book.specs.declared.Front.{Front}
 use Rattle.book.specs.declared.Rank.the-variants as rank
 use Rattle.book.specs.Shape.{entriesOf}
-use Rattle.book.specs.Look.{rankOf, lowest}
+use Rattle.book.specs.Look.{rankOf, frontOf, lowest}
 use Rattle.telling.specs.Stage.{Staged, alone}
 use Rattle.soundness_theory.specs.SoundMarket.{SoundFor}
 use Rattle.settling_theory.specs.Settle.{easing, easeAt, nextEase, easings, stirring, stirAt, nextStir, stirrings, eased, stirred}
-use Rattle.settling.specs.Turns.{entryIn, ownMarket, stirringBy, Judgeable, Watched, EaseTurn, StirTurn, Easeable, Stirable}
+use Rattle.settling.specs.Turns.{entryIn, stirringBy, Judgeable, Watched, EaseTurn, StirTurn, Easeable, Stirable}
 use Rattle.settling.proofs.RankLaws.{Lowest, lowest-at, ease-at-is, ease-none-is, stir-lowest, stir-at-is, stir-none-is}
 use Rattle.telling.proofs.GoingLaws.{Goes, Looping, loop-start, loop-done, loop-free, loop-falls, loop-turn}
 use Rattle.settling.proofs.Rules.{easing-falls, Uneased, stirring-falls, stir-goes}
@@ -56,28 +57,29 @@ pub stir-start : {k : Market} {b : Book} {room : List ℕ} {n : ℕ} → Stirabl
 unfolding stirred
 stir-start h = loop-start (h .well) (record { sound = h .sound; uneased = h .uneased }) (h .roomy)
 
-module _ {k own : Market} {b₀ b : Book} {room₀ room : List ℕ} {n₀ n : ℕ} (v : StirLoop k b₀ room₀ n₀ b room n) (known : own ≡ ownMarket k (entriesOf b)) where
-  watched : Watched k own b
+module _ {k : Market} {front : Front} {b₀ b : Book} {room₀ room : List ℕ} {n₀ n : ℕ} (v : StirLoop k b₀ room₀ n₀ b room n)
+    (known : front ≡ frontOf (entriesOf b)) where
+  watched : Watched k front b
   watched = record { well = v .well; sound = v .going .ok .sound; known = known }
 
-  pub stir-judges : Judgeable k own b
+  pub stir-judges : Judgeable k front b
   stir-judges = record { well = v .well; judged = watched-bounds watched }
 
-  pub stir-end : rank.Nowhere ≡ rankOf (lowest (stirringBy k own) (entriesOf b)) → Staged (stirred k (entriesOf b₀)) room₀ n₀ b room n
+  pub stir-end : rank.Nowhere ≡ rankOf (lowest (stirringBy k front) (entriesOf b)) → Staged (stirred k (entriesOf b₀)) room₀ n₀ b room n
   unfolding stirred
-  stir-end e = loop-done v (stir-none-is k own b (v .well) known e)
+  stir-end e = loop-done v (stir-none-is k front b (v .well) known e)
 
-  module _ (i : ℕ) (e : rank.At i ≡ rankOf (lowest (stirringBy k own) (entriesOf b))) where
+  module _ (i : ℕ) (e : rank.At i ≡ rankOf (lowest (stirringBy k front) (entriesOf b))) where
     who : Lowest (stirring k (entriesOf b)) b i
-    who = stir-lowest k own b (v .well) known i e
+    who = stir-lowest k front b (v .well) known i e
 
     is : nextStir k (entriesOf b) ≡ stirAt k (entriesOf b) (found i (entryIn b i))
-    is = stir-at-is k own b (v .well) known i e
+    is = stir-at-is k front b (v .well) known i e
 
     goes : Goes (stirAt k (entriesOf b) (found i (entryIn b i)))
     goes = stir-goes k b i who is
 
-    pub stir-asks : StirTurn k own b i room n
+    pub stir-asks : StirTurn k front b i room n
     stir-asks = record { turn = record { place = who .place; roomy = loop-free v (stirring-falls k) is goes }; watched = watched }
 
     module _ {b′ : Book} {room′ : List ℕ} {n′ : ℕ}

@@ -3,7 +3,7 @@
 -- Assumes nothing.
 use Prim.Native.Nat.{ℕ, min}
 use mathlib.Core.Path.{_≡_}
-use mathlib.Core.Bool.{Bool, true, false}
+use mathlib.Core.Bool.{Bool, false}
 use mathlib.Core.List.{List, [], _∷_}
 use lib.ListN.{getD}
 use Rattle.prices.specs.declared.Market.{Market}
@@ -14,8 +14,9 @@ use Rattle.lists.specs.Run.{Step, stop}
 use Rattle.packing.specs.declared.report.Report.{Report}
 use Rattle.book.specs.declared.Entry.{Entry}
 use Rattle.book.specs.declared.Book.{Book}
+use Rattle.book.specs.declared.Front.{Front}
 use Rattle.book.specs.Shape.{zeroEntry, entriesOf, WellFormed, Place, TwoPlaces}
-use Rattle.book.specs.Look.{bestContra, contra, working, facing}
+use Rattle.book.specs.Look.{bestContra, frontOf, contraIn}
 use Rattle.telling.specs.Tell.{traded}
 use Rattle.telling.specs.Stage.{Roomy, alone}
 use Rattle.soundness_theory.specs.SoundMarket.{SoundFor}
@@ -26,31 +27,23 @@ use Rattle.settling_theory.specs.Settle.{nextEase, easeAt, stirringAs, tradeAt,
 abbrev pub entryIn : Book → ℕ → Entry
 entryIn b i = getD (b .entries) i zeroEntry
 
--- ---- the prices that the book itself shows a side ----
+-- ---- an entry judged by the book's front ----
 
--- the book as a market: to each side its `away` price is C
-abbrev pub ownMarket : Market → List Entry → Market
-ownMarket k l = record { m = k .m; bid = contra true l; offer = contra false l }
+abbrev pub stirringBy : Market → Front → Entry → Bool
+stirringBy k front e = stirringAs k (contraIn front (e .sell)) e (e .pricing)
 
--- a turn of the scan for both of its prices
-abbrev pub ownTurn : Market → Entry → Market
-ownTurn own e = record { m = own .m; bid = facing working true (own .bid) e; offer = facing working false (own .offer) e }
+pub record Judged (k : Market) (front : Front) : Type 0 where
+  pub bounds : (s : Bool) → Bounds (k .m) (away k s) (contraIn front s)
 
-abbrev pub stirringBy : Market → Market → Entry → Bool
-stirringBy k own e = stirringAs k (away own (e .sell)) e (e .pricing)
-
-pub record Judged (k own : Market) : Type 0 where
-  pub bounds : (s : Bool) → Bounds (k .m) (away k s) (away own s)
-
-pub record Judgeable (k own : Market) (b : Book) : Type 0 where
+pub record Judgeable (k : Market) (front : Front) (b : Book) : Type 0 where
   pub well : WellFormed b
-  pub judged : Judged k own
+  pub judged : Judged k front
 
--- own prices that are those of the book
-pub record Watched (k own : Market) (b : Book) : Type 0 where
+-- a front that is the book's
+pub record Watched (k : Market) (front : Front) (b : Book) : Type 0 where
   pub well : WellFormed b
   pub sound : SoundFor k (entriesOf b)
-  pub known : own ≡ ownMarket k (entriesOf b)
+  pub known : front ≡ frontOf (entriesOf b)
 
 -- ---- a turn at a place, with room for what it reports ----
 
@@ -72,9 +65,9 @@ pub record DealTurn (b : Book) (i j : ℕ) (room : List ℕ) (n : ℕ) : Type 0 
 abbrev pub tradeStep : Book → ℕ → Step (List Entry) Report
 tradeStep b i = tradeAt (entriesOf b) i (entryIn b i) (bestContra (entryIn b i .sell) false (entriesOf b))
 
-pub record StirTurn (k own : Market) (b : Book) (i : ℕ) (room : List ℕ) (n : ℕ) : Type 0 where
+pub record StirTurn (k : Market) (front : Front) (b : Book) (i : ℕ) (room : List ℕ) (n : ℕ) : Type 0 where
   pub turn : Turn b i room n (alone (entriesOf b) (stirAt k (entriesOf b) (found i (entryIn b i))) .records)
-  pub watched : Watched k own b
+  pub watched : Watched k front b
 
 -- ---- the stages of settling ----
 

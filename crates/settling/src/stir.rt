@@ -1,8 +1,8 @@
 // Trades and moves, one after the other, until nothing stirs.
 use crate::ease::move_to;
 use crate::watch::first_stirring;
-use crate::watch::own_market;
 use book::Book;
+use book::Front;
 use book::Rank;
 use book::change::lesser;
 use book::change::traded;
@@ -10,6 +10,8 @@ use book::entries::display_of;
 use book::entries::kind_of;
 use book::entries::repriced;
 use book::look::best_contra;
+use book::look::contra_of;
+use book::look::front_of;
 use prices::Market;
 use prices::aims::aims_of;
 use prices::rest::is_marketable;
@@ -52,14 +54,14 @@ fn trade_at(b: Book, i: usize, room: &mut [u8], n: &mut usize) -> Book
 }
 
 // The entry at a place trades if it is marketable, and moves to its resting prices if not.
-fn stir_at(b: Book, market: Market, own: Market, i: usize, room: &mut [u8], n: &mut usize) -> Book
-    requires { ⌜ StirTurn market own b i (now room) (now n) ⌝ }
+fn stir_at(b: Book, market: Market, front: Front, i: usize, room: &mut [u8], n: &mut usize) -> Book
+    requires { ⌜ StirTurn market front b i (now room) (now n) ⌝ }
     ensures { λ r. ⌜ Staged (alone (entriesOf b) (stirAt market (entriesOf b) (found i (entryIn b i)))) (now (room .entry)) (now (n .entry)) r (now (room .exit)) (now (n .exit)) ⌝ }
 {
     let e = b.entries[i];
     let kind = kind_of(e);
     let away = away_of(market, e.sell);
-    let contra = away_of(own, e.sell);
+    let contra = contra_of(front, e.sell);
     let aim = aims_of(market.m, kind, e.sell, e.limit, away, contra);
     if is_marketable(kind, e.sell, contra, aim) {
         return trade_at(b, i, room, n);
@@ -75,11 +77,11 @@ pub fn stir(b: Book, market: Market, room: &mut [u8], n: &mut usize) -> Book
 {
     let mut book = b;
     loop {
-        let own = own_market(book, market);
-        let rank = first_stirring(book, market, own);
+        let front = front_of(book);
+        let rank = first_stirring(book, market, front);
         let Rank::At(i) = rank else {
             return book;
         };
-        book = stir_at(book, market, own, i, room, n);
+        book = stir_at(book, market, front, i, room, n);
     }
 }

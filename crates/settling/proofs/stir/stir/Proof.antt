@@ -13,13 +13,15 @@ abbrev μ-loop : tie.MeasureT-loop
 μ-loop market room₀ n₀ book₀ room n book = stirrings market (entriesOf book)
 
 loop-holds : tie.Need-loop-holds Inv-loop μ-loop
-loop-holds c = stir-start (c .before .pre)
+loop-holds c = let start : tie.Start Inv-loop μ-loop = search in stir-start (start .pre)
 
-own-market-requires : tie.Need-own-market-requires Inv-loop μ-loop
-own-market-requires c κs = c .loop .inv .well
+front-of-requires : tie.Need-front-of-requires Inv-loop μ-loop
+front-of-requires c κs = c .loop .inv .well
 
 first-stirring-requires : tie.Need-first-stirring-requires Inv-loop μ-loop
-first-stirring-requires c κs = stir-judges (c .before .loop .inv) (c .own-market .ensures)
+first-stirring-requires c κs =
+    let at-loop : tie.At-loop Inv-loop μ-loop = search in
+    stir-judges (at-loop .loop .inv) (c .front-of .ensures)
 
 enum-known-rank : tie.Need-enum-known-rank Inv-loop μ-loop
 enum-known-rank c = search needs
@@ -28,23 +30,43 @@ enum-told : tie.Need-enum-told Inv-loop μ-loop
 enum-told c = search needs
 
 same-length : tie.Need-same-length Inv-loop μ-loop
-same-length c = c .before .before .before .before .loop .inv .going .kept
+same-length c = let at-loop : tie.At-loop Inv-loop μ-loop = search in at-loop .loop .inv .going .kept
 
 returns : tie.Need-returns Inv-loop μ-loop
 returns c =
-    stir-end (c .before .before .before .before .loop .inv) (c .before .before .before .own-market .ensures) (sym (c .enum-told .given .1) ∙ c .before .before .first-stirring .ensures)
+    let at-first-stirring : tie.After-first-stirring Inv-loop μ-loop = search in
+    let at-front-of : tie.After-front-of Inv-loop μ-loop = search in
+    let at-loop : tie.At-loop Inv-loop μ-loop = search in
+    stir-end (at-loop .loop .inv) (at-front-of .front-of .ensures) (sym (c .enum-told .given .1) ∙ at-first-stirring .first-stirring .ensures)
 
 stir-at-requires : tie.Need-stir-at-requires Inv-loop μ-loop
 stir-at-requires c κs =
-    stir-asks (c .before .before .before .before .before .before .before .loop .inv) (c .before .before .before .before .before .before .own-market .ensures) (c .before .before .before .rank .given .0 .0) (sym (c .before .before .before .rank .given .1) ∙ c .before .before .before .before .before .first-stirring .ensures)
+    let at-rank : tie.After-rank Inv-loop μ-loop = search in
+    let at-first-stirring : tie.After-first-stirring Inv-loop μ-loop = search in
+    let at-front-of : tie.After-front-of Inv-loop μ-loop = search in
+    let at-loop : tie.At-loop Inv-loop μ-loop = search in
+    stir-asks (at-loop .loop .inv) (at-front-of .front-of .ensures) (at-rank .rank .given .0 .0)
+    (sym (at-rank .rank .given .1) ∙ at-first-stirring .first-stirring .ensures)
 
 loop-less : tie.Need-loop-less Inv-loop μ-loop
 loop-less c =
-    stir-lower (c .before .before .before .before .before .before .before .before .before .before .loop .inv) (c .before .before .before .before .before .before .before .before .before .own-market .ensures) (c .before .before .before .before .before .before .rank .given .0 .0) (sym (c .before .before .before .before .before .before .rank .given .1) ∙ c .before .before .before .before .before .before .before .before .first-stirring .ensures) (c .before .before .stir-at .ensures)
+    let at-stir-at : tie.After-stir-at Inv-loop μ-loop = search in
+    let at-rank : tie.After-rank Inv-loop μ-loop = search in
+    let at-first-stirring : tie.After-first-stirring Inv-loop μ-loop = search in
+    let at-front-of : tie.After-front-of Inv-loop μ-loop = search in
+    let at-loop : tie.At-loop Inv-loop μ-loop = search in
+    stir-lower (at-loop .loop .inv) (at-front-of .front-of .ensures) (at-rank .rank .given .0 .0)
+    (sym (at-rank .rank .given .1) ∙ at-first-stirring .first-stirring .ensures) (at-stir-at .stir-at .ensures)
 
 loop-again : tie.Need-loop-again Inv-loop μ-loop
 loop-again c =
-    stir-on (c .before .before .before .before .before .before .before .before .before .before .loop .inv) (c .before .before .before .before .before .before .before .before .before .own-market .ensures) (c .before .before .before .before .before .before .rank .given .0 .0) (sym (c .before .before .before .before .before .before .rank .given .1) ∙ c .before .before .before .before .before .before .before .before .first-stirring .ensures) (c .before .before .stir-at .ensures)
+    let at-stir-at : tie.After-stir-at Inv-loop μ-loop = search in
+    let at-rank : tie.After-rank Inv-loop μ-loop = search in
+    let at-first-stirring : tie.After-first-stirring Inv-loop μ-loop = search in
+    let at-front-of : tie.After-front-of Inv-loop μ-loop = search in
+    let at-loop : tie.At-loop Inv-loop μ-loop = search in
+    stir-on (at-loop .loop .inv) (at-front-of .front-of .ensures) (at-rank .rank .given .0 .0)
+    (sym (at-rank .rank .given .1) ∙ at-first-stirring .first-stirring .ensures) (at-stir-at .stir-at .ensures)
 
 pub stir-spec : {M : Type 1} → statement M
 stir-spec =
@@ -53,7 +75,7 @@ stir-spec =
     Inv-loop
     μ-loop
     loop-holds
-    own-market-requires
+    front-of-requires
     first-stirring-requires
     enum-known-rank
     enum-told

@@ -16,29 +16,47 @@ kind-of-requires c κs = search needs
 away-of-requires : tie.Need-away-of-requires
 away-of-requires c κs = search needs
 
-away-of-requires-2 : tie.Need-away-of-requires-2
-away-of-requires-2 c κs = search needs
+contra-of-requires : tie.Need-contra-of-requires
+contra-of-requires c κs = search needs
 
 aims-of-requires : tie.Need-aims-of-requires
 aims-of-requires c κs =
-    let s = c .before .before .before .before .before in
-    rw (c .before .away-of .ensures, c .away-of2 .ensures) (watched-bounds (s .pre .watched) .bounds (entryIn (s .args .t1) (s .args .i) .sell))
+    let at-away-of : tie.After-away-of = search in
+    let start : tie.Start = search in
+    rw (at-away-of .away-of .ensures, c .contra-of .ensures) (watched-bounds (start .pre .watched) .bounds (entryIn (start .args .t1) (start .args .i) .sell))
 
 is-marketable-requires : tie.Need-is-marketable-requires
 is-marketable-requires c κs = search needs
 
 trade-at-requires : tie.Need-trade-at-requires
 trade-at-requires c κs =
-    trade-turn (c .before .before .before .before .before .before .before .before .before .before .pre) (c .before .before .before .before .aims-of .result) (c .before .before .before .is-marketable .result) (c .before .before .before .before .before .before .away-of .ensures) (c .before .before .before .before .before .away-of2 .ensures) (c .before .before .before .before .before .before .before .kind-of .ensures) (c .before .before .before .before .aims-of .ensures) (c .before .before .before .is-marketable .ensures)
-    (c .before .before .if1 .taken)
+    let at-if1 : tie.Then1 = search in
+    let at-is-marketable : tie.After-is-marketable = search in
+    let at-aims-of : tie.After-aims-of = search in
+    let at-contra-of : tie.After-contra-of = search in
+    let at-away-of : tie.After-away-of = search in
+    let at-kind-of : tie.After-kind-of = search in
+    let start : tie.Start = search in
+    trade-turn (start .pre) (at-aims-of .aims-of .result) (at-is-marketable .is-marketable .result) (at-away-of .away-of .ensures)
+    (at-contra-of .contra-of .ensures) (at-kind-of .kind-of .ensures) (at-aims-of .aims-of .ensures) (at-is-marketable .is-marketable .ensures)
+    (at-if1 .if1 .taken)
 
 same-length : tie.Need-same-length
 same-length c = search needs
 
 returns : tie.Need-returns
 returns c =
-    trade-staged (c .before .before .before .before .before .before .before .before .before .before .before .before .before .pre) (c .before .before .before .before .before .before .before .aims-of .result) (c .before .before .before .before .before .before .is-marketable .result) (c .before .before .before .before .before .before .before .before .before .away-of .ensures) (c .before .before .before .before .before .before .before .before .away-of2 .ensures) (c .before .before .before .before .before .before .before .before .before .before .kind-of .ensures) (c .before .before .before .before .before .before .before .aims-of .ensures) (c .before .before .before .before .before .before .is-marketable .ensures)
-    (c .before .before .before .before .before .if1 .taken) (c .before .before .trade-at .ensures)
+    let at-trade-at : tie.After-trade-at = search in
+    let at-if1 : tie.Then1 = search in
+    let at-is-marketable : tie.After-is-marketable = search in
+    let at-aims-of : tie.After-aims-of = search in
+    let at-contra-of : tie.After-contra-of = search in
+    let at-away-of : tie.After-away-of = search in
+    let at-kind-of : tie.After-kind-of = search in
+    let start : tie.Start = search in
+    trade-staged (start .pre) (at-aims-of .aims-of .result) (at-is-marketable .is-marketable .result) (at-away-of .away-of .ensures)
+    (at-contra-of .contra-of .ensures) (at-kind-of .kind-of .ensures) (at-aims-of .aims-of .ensures) (at-is-marketable .is-marketable .ensures)
+    (at-if1 .if1 .taken) (at-trade-at .trade-at .ensures)
 
 display-of-requires : tie.Need-display-of-requires
 display-of-requires c κs = search needs
@@ -51,16 +69,41 @@ repriced-requires c κs = search needs
 
 move-to-requires : tie.Need-move-to-requires
 move-to-requires c κs =
-    move-turn (c .before .before .before .before .before .before .before .before .before .before .before .before .before .pre) (c .before .before .before .before .before .before .before .aims-of .result) (c .before .before .before .before .before .before .is-marketable .result) (c .before .before .before .before .before .before .before .before .before .away-of .ensures) (c .before .before .before .before .before .before .before .before .away-of2 .ensures) (c .before .before .before .before .before .before .before .before .before .before .kind-of .ensures) (c .before .before .before .before .before .before .before .aims-of .ensures) (c .before .before .before .before .before .before .is-marketable .ensures)
-    (c .before .before .before .before .before .if1 .left) (c .before .before .before .resting-of .result) (c .before .before .repriced .result) (c .before .before .before .before .display-of .ensures) (c .before .before .before .resting-of .ensures) (c .before .before .repriced .ensures)
+    let at-repriced : tie.After-repriced = search in
+    let at-resting-of : tie.After-resting-of = search in
+    let at-display-of : tie.After-display-of = search in
+    let at-if1 : tie.Else1 = search in
+    let at-is-marketable : tie.After-is-marketable = search in
+    let at-aims-of : tie.After-aims-of = search in
+    let at-contra-of : tie.After-contra-of = search in
+    let at-away-of : tie.After-away-of = search in
+    let at-kind-of : tie.After-kind-of = search in
+    let start : tie.Start = search in
+    move-turn (start .pre) (at-aims-of .aims-of .result) (at-is-marketable .is-marketable .result) (at-away-of .away-of .ensures)
+    (at-contra-of .contra-of .ensures) (at-kind-of .kind-of .ensures) (at-aims-of .aims-of .ensures) (at-is-marketable .is-marketable .ensures)
+    (at-if1 .if1 .left) (at-resting-of .resting-of .result) (at-repriced .repriced .result) (at-display-of .display-of .ensures)
+    (at-resting-of .resting-of .ensures) (at-repriced .repriced .ensures)
 
 same-length-2 : tie.Need-same-length-2
 same-length-2 c = search needs
 
 returns-2 : tie.Need-returns-2
 returns-2 c =
-    move-staged (c .before .before .before .before .before .before .before .before .before .before .before .before .before .before .before .before .pre) (c .before .before .before .before .before .before .before .before .before .before .aims-of .result) (c .before .before .before .before .before .before .before .before .before .is-marketable .result) (c .before .before .before .before .before .before .before .before .before .before .before .before .away-of .ensures) (c .before .before .before .before .before .before .before .before .before .before .before .away-of2 .ensures) (c .before .before .before .before .before .before .before .before .before .before .before .before .before .kind-of .ensures) (c .before .before .before .before .before .before .before .before .before .before .aims-of .ensures) (c .before .before .before .before .before .before .before .before .before .is-marketable .ensures)
-    (c .before .before .before .before .before .before .before .before .if1 .left) (c .before .before .before .before .before .before .resting-of .result) (c .before .before .before .before .before .repriced .result) (c .before .before .before .before .before .before .before .display-of .ensures) (c .before .before .before .before .before .before .resting-of .ensures) (c .before .before .before .before .before .repriced .ensures) (c .before .before .move-to .ensures)
+    let at-move-to : tie.After-move-to = search in
+    let at-repriced : tie.After-repriced = search in
+    let at-resting-of : tie.After-resting-of = search in
+    let at-display-of : tie.After-display-of = search in
+    let at-if1 : tie.Else1 = search in
+    let at-is-marketable : tie.After-is-marketable = search in
+    let at-aims-of : tie.After-aims-of = search in
+    let at-contra-of : tie.After-contra-of = search in
+    let at-away-of : tie.After-away-of = search in
+    let at-kind-of : tie.After-kind-of = search in
+    let start : tie.Start = search in
+    move-staged (start .pre) (at-aims-of .aims-of .result) (at-is-marketable .is-marketable .result) (at-away-of .away-of .ensures)
+    (at-contra-of .contra-of .ensures) (at-kind-of .kind-of .ensures) (at-aims-of .aims-of .ensures) (at-is-marketable .is-marketable .ensures)
+    (at-if1 .if1 .left) (at-resting-of .resting-of .result) (at-repriced .repriced .result) (at-display-of .display-of .ensures)
+    (at-resting-of .resting-of .ensures) (at-repriced .repriced .ensures) (at-move-to .move-to .ensures)
 
 pub stir-at-spec : {M : Type 1} → statement M
 stir-at-spec =
@@ -70,7 +113,7 @@ stir-at-spec =
     element-copy-out-e
     kind-of-requires
     away-of-requires
-    away-of-requires-2
+    contra-of-requires
     aims-of-requires
     is-marketable-requires
     trade-at-requires

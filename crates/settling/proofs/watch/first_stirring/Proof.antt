@@ -6,10 +6,10 @@ use Rattle.settling.proofs.watch.first_stirring.Statement.{statement}
 use Rattle.settling.proofs.watch.first_stirring.Tie as tie
 
 abbrev Inv-loop : tie.InvT-loop
-Inv-loop market own b n held₀ i₀ held i = Soonest (stirringBy market own) b held i
+Inv-loop market front b n held₀ i₀ held i = Soonest (stirringBy market front) b held i
 
 abbrev μ-loop : tie.MeasureT-loop
-μ-loop market own b n held₀ i₀ held i = n - i
+μ-loop market front b n held₀ i₀ held i = n - i
 
 nobody-requires : tie.Need-nobody-requires Inv-loop μ-loop
 nobody-requires c κs = search needs

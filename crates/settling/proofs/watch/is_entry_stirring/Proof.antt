@@ -14,16 +14,18 @@ enum-known-p c = search needs
 away-of-requires : tie.Need-away-of-requires
 away-of-requires c κs = search needs
 
-away-of-requires-2 : tie.Need-away-of-requires-2
-away-of-requires-2 c κs = search needs
+contra-of-requires : tie.Need-contra-of-requires
+contra-of-requires c κs = search needs
 
 kind-of-requires : tie.Need-kind-of-requires
 kind-of-requires c κs = search needs
 
 is-stirring-at-requires : tie.Need-is-stirring-at-requires
 is-stirring-at-requires c κs =
-    let s = c .before .before .before .before .before .before in
-    rw (c .before .before .away-of .ensures, c .before .away-of2 .ensures) (s .pre .bounds (s .args .e .sell))
+    let at-contra-of : tie.After-contra-of = search in
+    let at-away-of : tie.After-away-of = search in
+    let start : tie.Start = search in
+    rw (at-away-of .away-of .ensures, at-contra-of .contra-of .ensures) (start .pre .bounds (start .args .e .sell))
 
 returns : tie.Need-returns
 returns c = search needs
@@ -33,7 +35,11 @@ returns-2 c = search needs
 
 returns-3 : tie.Need-returns-3
 returns-3 c =
-    rw (c .before .before .before .before .before .p .given .1, c .is-stirring-at .ensures, c .before .kind-of .ensures, c .before .before .away-of2 .ensures, c .before .before .before .away-of .ensures)
+    let at-kind-of : tie.After-kind-of = search in
+    let at-contra-of : tie.After-contra-of = search in
+    let at-away-of : tie.After-away-of = search in
+    let at-p : tie.After-p = search in
+    rw (at-p .p .given .1, c .is-stirring-at .ensures, at-kind-of .kind-of .ensures, at-contra-of .contra-of .ensures, at-away-of .away-of .ensures)
 
 pub is-entry-stirring-spec : {M : Type 1} → statement M
 is-entry-stirring-spec =
@@ -43,7 +49,7 @@ is-entry-stirring-spec =
     enum-told-2
     enum-known-p
     away-of-requires
-    away-of-requires-2
+    contra-of-requires
     kind-of-requires
     is-stirring-at-requires
     returns

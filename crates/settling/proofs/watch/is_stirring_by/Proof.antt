@@ -12,10 +12,10 @@ use Rattle.settling.proofs.watch.is_stirring_by.Statement.{statement}
 use Rattle.settling.proofs.watch.is_stirring_by.Tie as tie
 
 abbrev Inv-loop : tie.InvT-loop
-Inv-loop market own b n i₀ i = Asking (stirring market (entriesOf b)) (b .entries) n i
+Inv-loop market front b n i₀ i = Asking (stirring market (entriesOf b)) (b .entries) n i
 
 abbrev μ-loop : tie.MeasureT-loop
-μ-loop market own b n i₀ i = n - i
+μ-loop market front b n i₀ i = n - i
 
 loop-holds : tie.Need-loop-holds Inv-loop μ-loop
 loop-holds c = ask-start _ _ _
@@ -27,15 +27,21 @@ element-copy-out-is-entry-stirring : tie.Need-element-copy-out-is-entry-stirring
 element-copy-out-is-entry-stirring c = search needs
 
 is-entry-stirring-requires : tie.Need-is-entry-stirring-requires Inv-loop μ-loop
-is-entry-stirring-requires c κs = watched-bounds (c .before .before .before .pre)
+is-entry-stirring-requires c κs = let start : tie.Start Inv-loop μ-loop = search in watched-bounds (start .pre)
 
 returns : tie.Need-returns Inv-loop μ-loop
 unfolding anyStirs entriesOf
 returns c =
-    let s = c .before .before .before .before .before in
-    let b = s .args .t1 in
-    let i = c .before .before .before .before .loop .i in
-    ask-hit (stirring (s .args .market) (entriesOf b)) (b .entries) (b .count) i zeroEntry (c .before .before .before .before .loop .inv) (omega (arith, s .pre .well .few, s .pre .well .places)) (c .before .before .before .loop-test .taken) (sym (stirring-is (s .args .market) (s .args .own) (entriesOf b) (s .pre .known) (getD (b .entries) i zeroEntry)) ∙ sym (c .before .is-entry-stirring .ensures) ∙ c .if1 .taken)
+    let at-is-entry-stirring : tie.After-is-entry-stirring Inv-loop μ-loop = search in
+    let at-loop-test : tie.In-loop Inv-loop μ-loop = search in
+    let at-loop : tie.At-loop Inv-loop μ-loop = search in
+    let start : tie.Start Inv-loop μ-loop = search in
+    let b = start .args .t1 in
+    let i = at-loop .loop .i in
+    ask-hit (stirring (start .args .market) (entriesOf b)) (b .entries) (b .count) i zeroEntry (at-loop .loop .inv)
+    (omega (arith, start .pre .well .few, start .pre .well .places)) (at-loop-test .loop-test .taken)
+    (sym (stirring-is (start .args .market) (start .args .front) (entriesOf b) (start .pre .known) (getD (b .entries) i zeroEntry))
+    ∙ sym (at-is-entry-stirring .is-entry-stirring .ensures) ∙ c .if1 .taken)
 
 add-i : tie.Need-add-i Inv-loop μ-loop
 add-i c = search needs
@@ -45,17 +51,24 @@ loop-less c = search needs
 
 loop-again : tie.Need-loop-again Inv-loop μ-loop
 loop-again c =
-    let s = c .before .before .before .before .before in
-    let b = s .args .t1 in
-    let i = c .before .before .before .before .loop .i in
-    ask-past (stirring (s .args .market) (entriesOf b)) (b .entries) (b .count) i zeroEntry (c .before .before .before .before .loop .inv) (omega (arith, s .pre .well .few, s .pre .well .places)) (c .before .before .before .loop-test .taken) (sym (stirring-is (s .args .market) (s .args .own) (entriesOf b) (s .pre .known) (getD (b .entries) i zeroEntry)) ∙ sym (c .before .is-entry-stirring .ensures) ∙ c .if1 .left)
+    let at-is-entry-stirring : tie.After-is-entry-stirring Inv-loop μ-loop = search in
+    let at-loop-test : tie.In-loop Inv-loop μ-loop = search in
+    let at-loop : tie.At-loop Inv-loop μ-loop = search in
+    let start : tie.Start Inv-loop μ-loop = search in
+    let b = start .args .t1 in
+    let i = at-loop .loop .i in
+    ask-past (stirring (start .args .market) (entriesOf b)) (b .entries) (b .count) i zeroEntry (at-loop .loop .inv)
+    (omega (arith, start .pre .well .few, start .pre .well .places)) (at-loop-test .loop-test .taken)
+    (sym (stirring-is (start .args .market) (start .args .front) (entriesOf b) (start .pre .known) (getD (b .entries) i zeroEntry))
+    ∙ sym (at-is-entry-stirring .is-entry-stirring .ensures) ∙ c .if1 .left)
 
 returns-2 : tie.Need-returns-2 Inv-loop μ-loop
 unfolding anyStirs entriesOf
 returns-2 c =
-    let s = c .before .before in
-    let b = s .args .t1 in
-    ask-none (stirring (s .args .market) (entriesOf b)) (b .entries) (b .count) (c .before .loop .i) (c .before .loop .inv) (c .loop-test .left)
+    let at-loop : tie.At-loop Inv-loop μ-loop = search in
+    let start : tie.Start Inv-loop μ-loop = search in
+    let b = start .args .t1 in
+    ask-none (stirring (start .args .market) (entriesOf b)) (b .entries) (b .count) (at-loop .loop .i) (at-loop .loop .inv) (c .loop-test .left)
 
 pub is-stirring-by-spec : {M : Type 1} → statement M
 is-stirring-by-spec =
