@@ -1,19 +1,19 @@
 -- The laws of anything packed, once for setups, messages and reports: what the functions that pack and unpack cite, and the round trips.
 use Prim.Native.Nat.{ℕ, min, _<_, _≤_}
-use mathlib.Core.Bool.{Bool, true, false, _&&_}
+use mathlib.Core.Bool.{Bool, true, false, cond, _&&_}
 use mathlib.Core.List.{List}
 use mathlib.Core.Option.{Option, none, some}
 use mathlib.Core.Path.{_≡_, refl, sym, ap, ap₂, _∙_, subst}
 use native.Mathlib.Omega.{arith}
 use lib.Dec.{eqb}
-use lib.ListN.{length, take, length-take}
+use lib.ListN.{length, take, replicate, length-take, length-replicate}
 use lib.Seq.{length-take-le}
 use borrow.Author.Tests.{eqb-true, eq-eqb, ne-eqb}
-use Rattle.bits.specs.Fields.{total, split, bytes, Bytes, Fit, allFit, equal}
+use Rattle.bits.specs.Fields.{total, join, split, bytes, Bytes, Fit, allFit, equal}
 use Rattle.bits.proofs.FieldLaws.{recode, split-fit, length-split}
 use Rattle.bits.proofs.ByteLaws.{fit-bytes, join-take}
 use Rattle.bits.proofs.TestLaws.{both-left, both-right, equal-true, equal-refl, allFit-true, fit-allFit}
-use Rattle.packing.specs.Codec.{Codec, bit, onlyIf, fieldsIn, bytesOf, checked, thingOf, unpackOf, answerOf, packs, packOf}
+use Rattle.packing.specs.Codec.{Codec, FieldsRead, FieldsWritten, bit, onlyIf, packedAs, fieldsIn, bytesOf, checked, thingOf, unpackOf, answerOf, packs, packOf}
 
 -- a side or a flag can be told from its bit
 pub bit-is : (b : Bool) → eqb (bit b) 1 ≡ b
@@ -27,19 +27,16 @@ onlyIf-some false u a h = absurd (let z : _≡_ {A = ℕ} 0 1 = cc in omega arit
 fit-long : (s : List ℕ) (n : ℕ) → Bytes s → length s ≡ n → Fit (bytes n) s
 fit-long s n b l = rw (← l) (fit-bytes s b)
 
--- what the code that unpacks and packs cites
+-- what the code that unpacks cites
 module _ {E : Type 0} (C : Codec E) where
-  pub thing-none : (l : List ℕ) → C .claimed l ≡ none → thingOf C l ≡ none
+  -- the claimed thing stands if its fields were found to be the same, and it to be admitted
+  pub thing-if : (l ys : List ℕ) (e : E) (same ok b : Bool) → C .claimed l ≡ some e → ys ≡ C .code e → same ≡ equal ys l → ok ≡ C .admitted e
+      → (same && ok) ≡ b
+      → thingOf C l ≡ onlyIf b (some e)
   unfolding thingOf
-  thing-none l h = ap (λ (u : Option E). checked C u l) h
-
-  pub thing-if : (l ys : List ℕ) (e : E) (same ok z : Bool) → C .claimed l ≡ some e → ys ≡ C .code e → same ≡ equal ys l → ok ≡ C .admitted e
-      → (same && ok) ≡ z
-      → thingOf C l ≡ onlyIf z (some e)
-  unfolding thingOf
-  thing-if l ys e same ok z h c k a t =
+  thing-if l ys e same ok b h c k a t =
       ap (λ (u : Option E). checked C u l) h
-      ∙ ap (λ (b : Bool). onlyIf b (some e)) (sym (ap₂ _&&_ (k ∙ ap (λ (u : List ℕ). equal u l) c) a) ∙ t)
+      ∙ ap (λ (z : Bool). onlyIf z (some e)) (sym (ap₂ _&&_ (k ∙ ap (λ (u : List ℕ). equal u l) c) a) ∙ t)
 
   pub unpack-other : (s : List ℕ) → (length s ≡ C .size → ⊥) → unpackOf C s ≡ none
   unfolding unpackOf
@@ -49,21 +46,86 @@ module _ {E : Type 0} (C : Codec E) where
   unpack-short s h =
       unpack-other (take (C .size) s) (λ e. let l : min (C .size) (length s) ≡ C .size = sym (length-take (C .size) s) ∙ e in omega arith)
 
-  pub unpack-long : (s xs : List ℕ) → C .size ≤ length s → xs ≡ fieldsIn C s → unpackOf C (take (C .size) s) ≡ thingOf C xs
+  unpack-long : (s xs : List ℕ) → C .size ≤ length s → xs ≡ fieldsIn C s → unpackOf C (take (C .size) s) ≡ thingOf C xs
   unfolding unpackOf
   unpack-long s xs h e =
       ap (λ (b : Bool). onlyIf b (thingOf C (fieldsIn C (take (C .size) s)))) (eq-eqb _ (C .size) (length-take-le (C .size) s h))
       ∙ ap (thingOf C) (ap (split (C .widths)) (join-take (C .size) s) ∙ sym e)
 
-  pub pack-if : (e : E) (xs out : List ℕ) (fit ok z : Bool) → xs ≡ C .code e → out ≡ bytesOf C xs → fit ≡ allFit (C .widths) xs
-      → ok ≡ C .admitted e
-      → (fit && ok) ≡ z
-      → packOf C e ≡ onlyIf z (some out)
-  unfolding packOf packs
-  pack-if e xs out fit ok z x o f a t =
-      ap₂ (λ (b : Bool) (l : List ℕ). onlyIf b (some l))
-      (sym (ap₂ _&&_ (f ∙ ap (allFit (C .widths)) x) a) ∙ t)
-      (sym (o ∙ ap (bytesOf C) x))
+  -- WHAT THE FIRST BYTES UNPACK TO, where there are enough of them: e is claimed by the fields that were read there, and b is the outcome of the tests
+  pub unpack-front : (s xs ys : List ℕ) (e : E) (same ok b : Bool) → C .size ≤ length s → xs ≡ fieldsIn C s → C .claimed xs ≡ some e
+      → ys ≡ C .code e → same ≡ equal ys xs → ok ≡ C .admitted e → (same && ok) ≡ b
+      → unpackOf C (take (C .size) s) ≡ onlyIf b (some e)
+  unpack-front s xs ys e same ok b h x k c q a t = unpack-long s xs h x ∙ thing-if xs ys e same ok b k c q a t
+
+  -- after `codec::read`, which answered b and left xs
+  unpack-read : (s stood xs : List ℕ) (ok b : Bool) → FieldsRead s (C .size) (C .widths) stood ok xs → ok ≡ b
+      → unpackOf C s ≡ onlyIf b (thingOf C xs)
+  unfolding unpackOf
+  unpack-read s stood xs ok true f h =
+      ap (λ (b : Bool). onlyIf b (thingOf C (fieldsIn C s))) (sym (f .long) ∙ h)
+      ∙ ap (thingOf C) (sym (f .read ∙ ap (λ (b : Bool). cond b (fieldsIn C s) stood) h))
+  unpack-read s stood xs ok false f h = ap (λ (b : Bool). onlyIf b (thingOf C (fieldsIn C s))) (sym (f .long) ∙ h)
+
+-- AN UNPACKER'S ANSWER, in a type of Rattle's
+pub record Answer {E : Type 0} (C : Codec E) (U : Type 0) : Type 0 where
+  -- how it is told; and what it was told of
+  pub told : Option E → U
+  pub heard : U → Option E
+  pub hears : (u : Option E) → heard (told u) ≡ u
+  -- document 01's number and fields for it
+  pub said : U → ℕ × List ℕ
+  pub says : (u : Option E) → said (told u) ≡ answerOf C u
+
+module _ {E U : Type 0} (C : Codec E) (A : Answer C U) where
+  -- it says which it is
+  pub was : (u v : Option E) → A .told u ≡ A .told v → u ≡ v
+  was u v h = sym (A .hears u) ∙ ap (A .heard) h ∙ A .hears v
+
+  -- where it is right, so are its number and fields
+  pub right : (u : Option E) (r : U) → r ≡ A .told u → (r ≡ A .told u) × (A .said r ≡ answerOf C u)
+  right u r h = (h, ap (A .said) h ∙ A .says u)
+
+  -- WHAT FIELDS SAY: nothing was found to be claimed by them; or e was, and b is the outcome of the tests
+  pub nothing-told : (l : List ℕ) (found : U) → found ≡ A .told (C .claimed l) → found ≡ A .told none → A .told none ≡ A .told (thingOf C l)
+  unfolding thingOf
+  nothing-told l found h k = ap (λ (u : Option E). A .told (checked C u l)) (was none (C .claimed l) (sym k ∙ h))
+
+  pub thing-told : (l ys : List ℕ) (found : U) (e : E) (same ok b : Bool) → found ≡ A .told (C .claimed l) → found ≡ A .told (some e)
+      → ys ≡ C .code e → same ≡ equal ys l → ok ≡ C .admitted e → (same && ok) ≡ b
+      → A .told (onlyIf b (some e)) ≡ A .told (thingOf C l)
+  thing-told l ys found e same ok b h k c s a t =
+      ap (A .told) (sym (thing-if C l ys e same ok b (was (C .claimed l) (some e) (sym h ∙ k)) c s a t))
+
+  -- WHAT BYTES UNPACK TO: `codec::read` answered b, and the answer was made of the fields that it read
+  pub unpack-told : {s stood xs : List ℕ} {ok : Bool} (b : Bool) {r : U} → FieldsRead s (C .size) (C .widths) stood ok xs → ok ≡ b
+      → r ≡ A .told (onlyIf b (thingOf C xs))
+      → (r ≡ A .told (unpackOf C s)) × (A .said r ≡ answerOf C (unpackOf C s))
+  unpack-told {s} {stood} {xs} {ok} b {r} f h e = right (unpackOf C s) r (e ∙ ap (A .told) (sym (unpack-read C s stood xs ok b f h)))
+
+-- WHAT A THING PACKS TO: `codec::write` answered ok, and left `out` where zeros stood
+pub pack-told : {E P : Type 0} (C : Codec E) (make : Bool → List ℕ → P) (e : E) {xs out : List ℕ} {ok admitted : Bool}
+    → xs ≡ C .code e → admitted ≡ C .admitted e → FieldsWritten (replicate (C .size) 0) (C .widths) xs admitted ok out
+    → make ok out ≡ packedAs make (C .size) (packOf C e)
+unfolding packOf packs bytesOf
+pack-told {E} {P} C make e {xs} {out} {ok} {admitted} x a w = by ok refl
+  where
+    zeros : List ℕ
+    zeros = replicate (C .size) 0
+
+    made : Bool → P
+    made b = packedAs make (C .size) (onlyIf b (some (bytesOf C (C .code e))))
+
+    packs-so : ok ≡ packs C e
+    packs-so = w .fit ∙ ap₂ _&&_ (ap (allFit (C .widths)) x) a
+
+    left : (b : Bool) → ok ≡ b → out ≡ cond b (bytesOf C (C .code e)) zeros
+    left b h = w .written ∙ ap₂ (λ (n : ℕ) (l : List ℕ). cond ok (split (bytes n) (join (C .widths) l)) zeros) (length-replicate (C .size) 0) x
+        ∙ ap (λ (z : Bool). cond z (bytesOf C (C .code e)) zeros) h
+
+    by : (b : Bool) → ok ≡ b → make ok out ≡ made (packs C e)
+    by true h = ap₂ make h (left true h) ∙ ap made (sym h ∙ packs-so)
+    by false h = ap₂ make h (left false h) ∙ ap made (sym h ∙ packs-so)
 
 -- What the table of a codec has to meet
 pub record Lawful {E : Type 0} (C : Codec E) : Type 0 where
@@ -162,9 +224,3 @@ module _ {E : Type 0} (C : Codec E) (L : Lawful C) where
       by-cases : (u : Option E) → unpackOf C s ≡ u → unpackOf C s ≡ none
       by-cases none k = k
       by-cases (some e) k = absurd (h e (unpack-pack s e b k))
-
--- AN UNPACKER'S ANSWER, in Rattle's type and by number: where it is right, so are its number and fields
-pub told-both : {E U : Type 0} (C : Codec E) (unpacked : Option E → U) (saidBy : U → ℕ × List ℕ)
-    → ((u : Option E) → saidBy (unpacked u) ≡ answerOf C u)
-    → (u : Option E) (r : U) → r ≡ unpacked u → (r ≡ unpacked u) × (saidBy r ≡ answerOf C u)
-told-both C unpacked saidBy says u r h = (h, ap saidBy h ∙ says u)

@@ -1,11 +1,12 @@
 -- Messages: their table is lawful, so that the laws of `CodecLaws` hold of them.
-use Prim.Native.Nat.{ℕ}
+use Prim.Native.Nat.{ℕ, _+_, _<_}
 use mathlib.Core.Bool.{Bool}
 use mathlib.Core.List.{List}
 use mathlib.Core.Option.{Option, none, some}
-use mathlib.Core.Path.{_≡_, refl, ap}
+use mathlib.Core.Path.{_≡_, refl, sym, ap}
 use native.Mathlib.Omega.{arith}
 use lib.Dec.{eqb}
+use lib.ListN.{length, drop, length-drop}
 use borrow.Author.Tests.{ne-eqb}
 use Rattle.packing.specs.declared.message.Entering.{Entering}
 use Rattle.packing.specs.declared.message.Event.{Event}
@@ -13,8 +14,8 @@ use Rattle.packing.specs.declared.message.Event.the-variants.{Plain, Mml
 use Rattle.packing.specs.declared.message.Unpacked.{Unpacked}
 use Rattle.packing.specs.declared.message.Unpacked.the-variants.{Message, Nothing}
 use Rattle.packing.specs.Codec.{bit, lookUp, answerOf, unpackOf}
-use Rattle.packing.specs.Message.{codeOf, byKind, claimedBy, messages, unpacked, saidBy, eventIn}
-use Rattle.packing.proofs.CodecLaws.{Lawful, bit-is, told-both}
+use Rattle.packing.specs.Message.{codeOf, byKind, claimedBy, messages, messageAt, unpacked, eventIn, saidBy}
+use Rattle.packing.proofs.CodecLaws.{Lawful, bit-is, Answer, was, right, unpack-short}
 
 -- no other kind is in the table
 pub unknown-kind : (k : ℕ) (t : Entering) (second entry : ℕ)
@@ -60,23 +61,28 @@ code-claimed (Enable party) = refl
 pub lawful : Lawful messages
 lawful = record { whole = refl; long = refl; code-claimed = code-claimed }
 
--- an answer in Rattle's type says which it is
+-- an answer in Rattle's type holds what was unpacked
 pub event-in : (u : Option Event) → eventIn (unpacked u) ≡ u
 event-in none = refl
 event-in (some e) = refl
 
-pub was-nothing : (u : Option Event) → unpacked u ≡ Nothing → u ≡ none
-was-nothing none h = refl
-was-nothing (some e) h = absurd (let z : _≡_ {A = ℕ} 0 1 = cc in omega arith)
-
-pub was-message : (u : Option Event) (e : Event) → unpacked u ≡ Message e → u ≡ some e
-was-message none e h = absurd (let z : _≡_ {A = ℕ} 0 1 = cc in omega arith)
-was-message (some d) e h = let s : d ≡ e = cc in ap some s
-
--- a right answer has document 01's number and fields, whichever case it is
-pub told : (s : List ℕ) (r : Unpacked) → r ≡ unpacked (unpackOf messages s) → (r ≡ unpacked (unpackOf messages s)) × (saidBy r ≡ answerOf messages (unpackOf messages s))
-told s = told-both messages unpacked saidBy says (unpackOf messages s)
+-- the answers in Rattle's types
+abbrev pub answer : Answer messages Unpacked
+answer = record { told = unpacked; heard = eventIn; hears = event-in; said = saidBy; says = says }
   where
     says : (u : Option Event) → saidBy (unpacked u) ≡ answerOf messages u
     says none = refl
     says (some e) = refl
+
+pub was-nothing : (u : Option Event) → unpacked u ≡ Nothing → u ≡ none
+was-nothing u = was messages answer u none
+
+pub was-message : (u : Option Event) (e : Event) → unpacked u ≡ Message e → u ≡ some e
+was-message u e = was messages answer u (some e)
+
+-- too few bytes from a place to the run's end
+pub short : (run : List ℕ) (at : ℕ) → length run < at + messages .size
+    → (Nothing ≡ unpacked (unpackOf messages (messageAt run at))) × (saidBy Nothing ≡ answerOf messages (unpackOf messages (messageAt run at)))
+short run at h =
+    right messages answer (unpackOf messages (messageAt run at)) Nothing
+    (ap unpacked (sym (unpack-short messages (drop at run) (rw length-drop (omega arith)))))

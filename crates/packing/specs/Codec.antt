@@ -1,12 +1,13 @@
 -- What it is to be packed, once for setups, messages and reports: fields in bits, most significant bit first, and a table that says
 -- which number and which fields each case has.
-use Prim.Native.Nat.{ℕ}
-use mathlib.Core.Bool.{Bool, true, false, _&&_}
+use Prim.Native.Nat.{ℕ, _*_, _≤_}
+use mathlib.Core.Bool.{Bool, true, false, cond, _&&_}
 use mathlib.Core.List.{List, [], _∷_}
 use mathlib.Core.Option.{Option, none, some}
+use mathlib.Core.Path.{_≡_}
 use lib.Dec.{eqb}
-use lib.ListN.{length}
-use Rattle.bits.specs.Fields.{join, split, bytes, allFit, equal}
+use lib.ListN.{length, replicate}
+use Rattle.bits.specs.Fields.{total, join, split, bytes, Narrow, allFit, equal}
 
 -- A sort of packed thing
 pub record Codec (E : Type 0) : Type 0 where
@@ -43,6 +44,29 @@ lookUp n (row ∷ rows) = firstIf (eqb n (row .0)) (row .1) (lookUp n rows)
 -- "unpack to none (1)"; a setup "refused (1, no series)"; a message that is none, refusal 1
 abbrev pub nothing : ℕ
 nothing = 1
+
+-- a packer's answer in Rattle's type, made of whether there are bytes, and these; where there are none, bytes of zeros stand there
+abbrev pub packedAs : {P : Type 0} → (Bool → List ℕ → P) → ℕ → Option (List ℕ) → P
+packedAs make size none = make false (replicate size 0)
+packedAs make size (some s) = make true s
+
+-- widths of k fields, none wider than 32 bits, that fill n bytes, at most 64
+pub record Layout (ws : List ℕ) (k n : ℕ) : Type 0 where
+  pub fills : total ws ≡ 8 * n
+  pub narrow : Narrow ws
+  pub fields : k ≡ length ws
+  pub small : n ≤ 64
+
+-- fields of the widths ws were asked of s: ok, if s has n bytes, and the fields are then theirs, and otherwise those that stood there
+pub record FieldsRead (s : List ℕ) (n : ℕ) (ws stood : List ℕ) (ok : Bool) (fields : List ℕ) : Type 0 where
+  pub long : ok ≡ eqb (length s) n
+  pub read : fields ≡ cond ok (split ws (join (bytes n) s)) stood
+
+-- fields of the widths ws were to be written where some bytes stood: ok, if each fits and the thing that they say is admitted, and the
+-- bytes are then theirs, and otherwise those that stood there
+pub record FieldsWritten (stood ws fields : List ℕ) (admitted ok : Bool) (s : List ℕ) : Type 0 where
+  pub fit : ok ≡ (allFit ws fields && admitted)
+  pub written : s ≡ cond ok (split (bytes (length stood)) (join ws fields)) stood
 
 module _ {E : Type 0} (C : Codec E) where
   -- the fields that bytes hold, and the bytes of fields

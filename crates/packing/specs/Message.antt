@@ -1,17 +1,17 @@
 -- Messages, as document 01's "Numbers" lays them out.
 use Prim.Native.Nat.{ℕ}
-use mathlib.Core.Bool.{true, false}
+use mathlib.Core.Bool.{true}
 use mathlib.Core.List.{List, [], _∷_}
 use mathlib.Core.Option.{Option, none, some}
 use lib.Dec.{eqb}
-use lib.ListN.{getD, replicate, take, drop}
+use lib.ListN.{getD, take, drop}
 use Rattle.packing.specs.declared.message.Entering.{Entering}
 use Rattle.packing.specs.declared.message.Event.{Event}
 use Rattle.packing.specs.declared.message.Event.the-variants.{Plain, Mmlo, Mmalo, Mmrp, Displayed, Dark, CancelEntry, CancelQuote, Away, Underlying, Phase, Enable}
 use Rattle.packing.specs.declared.message.Unpacked.{Unpacked}
 use Rattle.packing.specs.declared.message.Unpacked.the-variants.{Message, Nothing}
 use Rattle.packing.specs.declared.message.Packed.{Packed}
-use Rattle.packing.specs.Codec.{Codec, nothing, bit, lookUp}
+use Rattle.packing.specs.Codec.{Codec, nothing, packedAs, bit, lookUp}
 
 -- "A message is 11 bytes: kind 4 bits, party 7, side 1 (0 buy, 1 sell), price 17, quantity 17, second price 17, entry 20, five zero bits."
 abbrev pub widths : List ℕ
@@ -84,5 +84,4 @@ saidBy Nothing = (nothing, [])
 saidBy (Message e) = (0, codeOf e)
 
 abbrev pub packed : Option (List ℕ) → Packed
-packed none = record { ok = false; bytes = replicate (messages .size) 0 }
-packed (some s) = record { ok = true; bytes = s }
+packed = packedAs (λ ok s. record { ok = ok; bytes = s }) (messages .size)

@@ -4,13 +4,13 @@ use mathlib.Core.Bool.{Bool, true, false}
 use mathlib.Core.List.{List, [], _∷_, _++_}
 use mathlib.Core.Option.{Option, none, some}
 use lib.Dec.{eqb}
-use lib.ListN.{getD, replicate}
+use lib.ListN.{getD}
 use Rattle.packing.specs.declared.report.Report.{Report}
 use Rattle.packing.specs.declared.report.Report.the-variants.{Noted, Rejected, Traded, Rested, Repriced, Cancelled}
 use Rattle.packing.specs.declared.report.Unpacked.{Unpacked}
 use Rattle.packing.specs.declared.report.Unpacked.the-variants.{Told, Nothing}
 use Rattle.packing.specs.declared.report.Packed.{Packed}
-use Rattle.packing.specs.Codec.{Codec, nothing, bit, lookUp}
+use Rattle.packing.specs.Codec.{Codec, nothing, packedAs, bit, lookUp}
 
 -- "14 bytes: kind 3 bits, reason 5, side 1, party 7, entry 20, other entry 20, price 17, second 17, quantity 17, five zero bits."
 abbrev pub widths : List ℕ
@@ -73,5 +73,4 @@ saidBy Nothing = (nothing, [])
 saidBy (Told r) = (0, codeOf r)
 
 abbrev pub packed : Option (List ℕ) → Packed
-packed none = record { ok = false; bytes = replicate (reports .size) 0 }
-packed (some s) = record { ok = true; bytes = s }
+packed = packedAs (λ ok s. record { ok = ok; bytes = s }) (reports .size)

@@ -1,15 +1,15 @@
 -- Setup, as document 01's "Numbers" lays it out.
 use Prim.Native.Nat.{ℕ}
-use mathlib.Core.Bool.{Bool, true, false, _&&_, _||_}
+use mathlib.Core.Bool.{Bool, _&&_, _||_}
 use mathlib.Core.List.{List, [], _∷_}
 use mathlib.Core.Option.{Option, none, some}
 use lib.Dec.{eqb, leb}
-use lib.ListN.{getD, replicate}
+use lib.ListN.{getD}
 use Rattle.packing.specs.declared.setup.Setup.{Setup}
 use Rattle.packing.specs.declared.setup.Unpacked.{Unpacked}
 use Rattle.packing.specs.declared.setup.Unpacked.the-variants.{Series, Nothing}
 use Rattle.packing.specs.declared.setup.Packed.{Packed}
-use Rattle.packing.specs.Codec.{Codec, nothing, bit}
+use Rattle.packing.specs.Codec.{Codec, nothing, packedAs, bit}
 
 -- "Setup is 4 packed bytes, most significant bit first: put 1 bit, exempt 1, M 4, K 7, strike 17, two zero bits."
 abbrev pub widths : List ℕ
@@ -44,5 +44,4 @@ saidBy Nothing = (nothing, [])
 saidBy (Series s) = (0, codeOf s)
 
 abbrev pub packed : Option (List ℕ) → Packed
-packed none = record { ok = false; bytes = replicate (setups .size) 0 }
-packed (some s) = record { ok = true; bytes = s }
+packed = packedAs (λ ok s. record { ok = ok; bytes = s }) (setups .size)

@@ -1,8 +1,6 @@
 // Messages: 11 bytes each.
 ghost use mathlib.Core.Path.{_≡_};
-ghost use Prim.Native.Nat.{_≤_};
-ghost use lib.ListN.{length, take};
-ghost use Rattle.packing.specs.Codec.{lookUp, fieldsIn, bytesOf, thingOf, unpackOf, packOf, answerOf};
+ghost use Rattle.packing.specs.Codec.{lookUp, thingOf, unpackOf, packOf, answerOf};
 ghost use Rattle.packing.specs.Message.{messages, enteringCode, codeOf, byKind, claimedBy, messageAt, unpacked, packed, saidBy};
 
 // What a quote or an order says.
@@ -45,25 +43,6 @@ const SIZE: usize = 11;
 
 // The widths of the fields, in bits: kind, party, side, price, quantity, second price, entry, zero bits.
 const WIDTHS: [u8; 8] = [4, 7, 1, 17, 17, 17, 20, 5];
-
-fn read(s: &[u8]) -> [u32; 8]
-    requires { ⌜ messages .size ≤ length (now s) ⌝ }
-    ensures { λ r. ⌜ r ≡ fieldsIn messages (now (s .entry)) ⌝ }
-{
-    let mut xs = [0u32; 8];
-    let ws = WIDTHS;
-    bits::reader::read_all(s, SIZE, &ws, &mut xs);
-    xs
-}
-
-fn write(xs: [u32; 8]) -> [u8; SIZE]
-    ensures { λ r. ⌜ r ≡ bytesOf messages xs ⌝ }
-{
-    let mut out = [0u8; SIZE];
-    let ws = WIDTHS;
-    bits::writer::write_all(&mut out, &ws, &xs);
-    out
-}
 
 fn entering_code(kind: u32, t: Entering) -> [u32; 8]
     ensures { λ r. ⌜ r ≡ enteringCode kind t ⌝ }
@@ -154,39 +133,33 @@ fn event_of(xs: [u32; 8]) -> Unpacked
     }
 }
 
-// The event of the first 11 bytes.
-fn unpack_front(s: &[u8]) -> Unpacked
-    ensures { λ r. ⌜ r ≡ unpacked (unpackOf messages (take (messages .size) (now (s .entry)))) ⌝ }
-{
-    if s.len() < SIZE {
-        return Unpacked::Nothing;
-    }
-    let xs = read(s);
-    event_of(xs)
-}
-
 // The event of 11 bytes; nothing for bytes that are no message.
 pub fn unpack(bytes: &[u8]) -> Unpacked
     ensures { λ r. ⌜ r ≡ unpacked (unpackOf messages (now (bytes .entry))) ⌝ }
     ensures { λ r. ⌜ saidBy r ≡ answerOf messages (unpackOf messages (now (bytes .entry))) ⌝ }
 {
-    if bytes.len() == SIZE {
-        unpack_front(bytes)
+    let mut xs = [0u32; 8];
+    let ws = WIDTHS;
+    if crate::codec::read(bytes, SIZE, &ws, &mut xs) {
+        event_of(xs)
     } else {
         Unpacked::Nothing
     }
 }
 
-// The event of the message that stands at a place of a run. The run's part from there on is handed on, and nothing is copied out.
+// The event of the message that stands at a place of a run. That part of the run is handed on, and nothing is copied out.
 pub fn unpack_at(run: &[u8], at: usize) -> Unpacked
     ensures { λ r. ⌜ r ≡ unpacked (unpackOf messages (messageAt (now (run .entry)) at)) ⌝ }
     ensures { λ r. ⌜ saidBy r ≡ answerOf messages (unpackOf messages (messageAt (now (run .entry)) at)) ⌝ }
 {
-    if at <= run.len() {
-        unpack_front(&run[at..])
-    } else {
-        Unpacked::Nothing
+    if run.len() < SIZE {
+        return Unpacked::Nothing;
     }
+    if run.len() - SIZE < at {
+        return Unpacked::Nothing;
+    }
+    let end = at + SIZE;
+    unpack(&run[at..end])
 }
 
 // The 11 bytes of an event; no bytes for one of which a field does not fit.
@@ -195,13 +168,7 @@ pub fn pack(event: Event) -> Packed
 {
     let xs = code(event);
     let ws = WIDTHS;
-    if bits::tests::fits(&ws, &xs) {
-        let bytes = write(xs);
-        Packed { ok: true, bytes }
-    } else {
-        Packed {
-            ok: false,
-            bytes: [0u8; SIZE],
-        }
-    }
+    let mut bytes = [0u8; SIZE];
+    let ok = crate::codec::write(&mut bytes, &ws, &xs, true);
+    Packed { ok, bytes }
 }

@@ -1,10 +1,9 @@
 // Reports: 14 bytes each.
 ghost use mathlib.Core.Path.{_≡_};
-ghost use Prim.Native.Nat.{_≤_};
 ghost use lib.Dec.{leb};
-ghost use lib.ListN.{length, drop, getD, replicate};
+ghost use lib.ListN.{drop, getD, replicate};
 ghost use mathlib.Core.Bool.{cond};
-ghost use Rattle.packing.specs.Codec.{lookUp, fieldsIn, bytesOf, thingOf, unpackOf, packOf, answerOf};
+ghost use Rattle.packing.specs.Codec.{lookUp, thingOf, unpackOf, packOf, answerOf};
 ghost use Rattle.packing.specs.Report.{reports, fieldsOf, codeOf, kindsOf, claimedBy, unpacked, packed, saidBy, nineFields};
 
 // What happened to an entry: one case for each kind, in the order of the kinds' numbers 1 to 6.
@@ -67,25 +66,6 @@ const SIZE: usize = 14;
 
 // The widths of the fields, in bits: kind, reason, side, party, entry, other entry, price, second, quantity, zero bits.
 const WIDTHS: [u8; 10] = [3, 5, 1, 7, 20, 20, 17, 17, 17, 5];
-
-fn read(s: &[u8]) -> [u32; 10]
-    requires { ⌜ reports .size ≤ length (now s) ⌝ }
-    ensures { λ r. ⌜ r ≡ fieldsIn reports (now (s .entry)) ⌝ }
-{
-    let mut xs = [0u32; 10];
-    let ws = WIDTHS;
-    bits::reader::read_all(s, SIZE, &ws, &mut xs);
-    xs
-}
-
-fn write(xs: [u32; 10]) -> [u8; SIZE]
-    ensures { λ r. ⌜ r ≡ bytesOf reports xs ⌝ }
-{
-    let mut out = [0u8; SIZE];
-    let ws = WIDTHS;
-    bits::writer::write_all(&mut out, &ws, &xs);
-    out
-}
 
 fn row(
     kind: u32,
@@ -281,8 +261,9 @@ pub fn unpack(bytes: &[u8]) -> Unpacked
     ensures { λ r. ⌜ r ≡ unpacked (unpackOf reports (now (bytes .entry))) ⌝ }
     ensures { λ r. ⌜ saidBy r ≡ answerOf reports (unpackOf reports (now (bytes .entry))) ⌝ }
 {
-    if bytes.len() == SIZE {
-        let xs = read(bytes);
+    let mut xs = [0u32; 10];
+    let ws = WIDTHS;
+    if crate::codec::read(bytes, SIZE, &ws, &mut xs) {
         report_of(xs)
     } else {
         Unpacked::Nothing
@@ -295,13 +276,7 @@ pub fn pack(report: Report) -> Packed
 {
     let xs = code(report);
     let ws = WIDTHS;
-    if bits::tests::fits(&ws, &xs) {
-        let bytes = write(xs);
-        Packed { ok: true, bytes }
-    } else {
-        Packed {
-            ok: false,
-            bytes: [0u8; SIZE],
-        }
-    }
+    let mut bytes = [0u8; SIZE];
+    let ok = crate::codec::write(&mut bytes, &ws, &xs, true);
+    Packed { ok, bytes }
 }

@@ -1,8 +1,6 @@
 // Setup: 4 bytes that say what series it is.
 ghost use mathlib.Core.Path.{_≡_};
-ghost use Prim.Native.Nat.{_≤_};
-ghost use lib.ListN.{length};
-ghost use Rattle.packing.specs.Codec.{fieldsIn, bytesOf, thingOf, unpackOf, packOf, answerOf};
+ghost use Rattle.packing.specs.Codec.{thingOf, unpackOf, packOf, answerOf};
 ghost use Rattle.packing.specs.Setup.{setups, codeOf, legalSetup, unpacked, packed, saidBy};
 
 pub struct Setup {
@@ -31,25 +29,6 @@ const SIZE: usize = 4;
 
 // The widths of the fields, in bits: put, exempt, M, K, strike, zero bits.
 const WIDTHS: [u8; 6] = [1, 1, 4, 7, 17, 2];
-
-fn read(s: &[u8]) -> [u32; 6]
-    requires { ⌜ setups .size ≤ length (now s) ⌝ }
-    ensures { λ r. ⌜ r ≡ fieldsIn setups (now (s .entry)) ⌝ }
-{
-    let mut xs = [0u32; 6];
-    let ws = WIDTHS;
-    bits::reader::read_all(s, SIZE, &ws, &mut xs);
-    xs
-}
-
-fn write(xs: [u32; 6]) -> [u8; SIZE]
-    ensures { λ r. ⌜ r ≡ bytesOf setups xs ⌝ }
-{
-    let mut out = [0u8; SIZE];
-    let ws = WIDTHS;
-    bits::writer::write_all(&mut out, &ws, &xs);
-    out
-}
 
 fn code(s: Setup) -> [u32; 6]
     ensures { λ r. ⌜ r ≡ codeOf s ⌝ }
@@ -94,8 +73,9 @@ pub fn unpack(bytes: &[u8]) -> Unpacked
     ensures { λ r. ⌜ r ≡ unpacked (unpackOf setups (now (bytes .entry))) ⌝ }
     ensures { λ r. ⌜ saidBy r ≡ answerOf setups (unpackOf setups (now (bytes .entry))) ⌝ }
 {
-    if bytes.len() == SIZE {
-        let xs = read(bytes);
+    let mut xs = [0u32; 6];
+    let ws = WIDTHS;
+    if crate::codec::read(bytes, SIZE, &ws, &mut xs) {
         setup_of(xs)
     } else {
         Unpacked::Nothing
@@ -108,14 +88,7 @@ pub fn pack(setup: Setup) -> Packed
 {
     let xs = code(setup);
     let ws = WIDTHS;
-    let fits = bits::tests::fits(&ws, &xs);
-    if fits & is_legal(setup) {
-        let bytes = write(xs);
-        Packed { ok: true, bytes }
-    } else {
-        Packed {
-            ok: false,
-            bytes: [0u8; SIZE],
-        }
-    }
+    let mut bytes = [0u8; SIZE];
+    let ok = crate::codec::write(&mut bytes, &ws, &xs, is_legal(setup));
+    Packed { ok, bytes }
 }

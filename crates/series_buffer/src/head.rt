@@ -6,7 +6,7 @@ ghost use mathlib.Core.List.{map};
 ghost use mathlib.Core.Option.{some};
 ghost use Prim.Native.Nat.{_≤_};
 ghost use lib.ListN.{length, take, drop};
-ghost use Rattle.packing.specs.Codec.{onlyIf, fieldsIn, bytesOf, packs, unpackOf};
+ghost use Rattle.packing.specs.Codec.{onlyIf, bytesOf, packs, unpackOf};
 ghost use Rattle.series_buffer.specs.Header.{headers, codeOf, isSet, headerBy};
 
 // Whether there is a header, and which.
@@ -48,16 +48,6 @@ const WIDTHS: [u8; 27] = [
     1,
     1,
 ];
-
-fn read(s: &[u8]) -> [u32; 27]
-    requires { ⌜ headers .size ≤ length (now s) ⌝ }
-    ensures { λ r. ⌜ r ≡ fieldsIn headers (now (s .entry)) ⌝ }
-{
-    let mut xs = [0u32; 27];
-    let ws = WIDTHS;
-    bits::reader::read_all(s, SIZE, &ws, &mut xs);
-    xs
-}
 
 fn code(h: Header) -> [u32; 27]
     ensures { λ r. ⌜ r ≡ codeOf h ⌝ }
@@ -153,7 +143,9 @@ pub fn unpack(s: &[u8]) -> Found
     requires { ⌜ headers .size ≤ length (now s) ⌝ }
     ensures { λ r. ⌜ unpackOf headers (take (headers .size) (now (s .entry))) ≡ onlyIf (r .ok) (some (r .header)) ⌝ }
 {
-    let xs = read(s);
+    let mut xs = [0u32; 27];
+    let ws = WIDTHS;
+    bits::reader::read_all(s, SIZE, &ws, &mut xs);
     let header = header_by(xs);
     let ys = code(header);
     let ok = bits::tests::same(&ys, &xs);

@@ -7,7 +7,7 @@ ghost use mathlib.Core.Option.{some};
 ghost use Prim.Native.Nat.{_≤_, _<_};
 ghost use lib.ListN.{length, take, getD};
 ghost use Rattle.lists.specs.Tests.{all};
-ghost use Rattle.packing.specs.Codec.{onlyIf, fieldsIn, bytesOf, packs, unpackOf};
+ghost use Rattle.packing.specs.Codec.{onlyIf, bytesOf, packs, unpackOf};
 ghost use Rattle.series_buffer.specs.Entry.{entries, codeOf, pricingNumber, ownDisplay, pricingBy, entryBy};
 ghost use Rattle.series_buffer.specs.State.{entriesIn, entriesBytes};
 
@@ -28,16 +28,6 @@ const SIZE: usize = 24;
 
 // The widths of the fields, in bits: number, limit, quantity, working price, display, party, kind, side, pricing.
 const WIDTHS: [u8; 9] = [32, 32, 32, 32, 32, 8, 8, 8, 8];
-
-fn read(s: &[u8]) -> [u32; 9]
-    requires { ⌜ entries .size ≤ length (now s) ⌝ }
-    ensures { λ r. ⌜ r ≡ fieldsIn entries (now (s .entry)) ⌝ }
-{
-    let mut xs = [0u32; 9];
-    let ws = WIDTHS;
-    bits::reader::read_all(s, SIZE, &ws, &mut xs);
-    xs
-}
 
 fn pricing_number(p: Pricing) -> u32
     ensures { λ r. ⌜ r ≡ pricingNumber p ⌝ }
@@ -112,7 +102,9 @@ fn unpack(s: &[u8]) -> Found
     requires { ⌜ entries .size ≤ length (now s) ⌝ }
     ensures { λ r. ⌜ unpackOf entries (take (entries .size) (now (s .entry))) ≡ onlyIf (r .ok) (some (r .entry)) ⌝ }
 {
-    let xs = read(s);
+    let mut xs = [0u32; 9];
+    let ws = WIDTHS;
+    bits::reader::read_all(s, SIZE, &ws, &mut xs);
     let entry = entry_by(xs);
     let ys = code(entry);
     let ok = bits::tests::same(&ys, &xs);

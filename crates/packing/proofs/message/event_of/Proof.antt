@@ -1,10 +1,8 @@
-use Prim.Native.Nat.{ℕ}
 use mathlib.Core.Bool.{true, false, and-true}
-use mathlib.Core.List.{List}
-use mathlib.Core.Path.{refl, sym, ap, _∙_}
-use Rattle.packing.specs.Message.{messages, claimedBy, unpacked}
-use Rattle.packing.proofs.CodecLaws.{thing-none, thing-if}
-use Rattle.packing.proofs.MessageLaws.{was-nothing, was-message}
+use mathlib.Core.Path.{refl, _∙_}
+use Rattle.packing.specs.Message.{messages}
+use Rattle.packing.proofs.CodecLaws.{nothing-told, thing-told}
+use Rattle.packing.proofs.MessageLaws.{answer}
 use borrow.Author.Needs.{needs}
 use Rattle.packing.proofs.message.event_of.Statement.{statement}
 use Rattle.packing.proofs.message.event_of.Tie as tie
@@ -20,8 +18,8 @@ enum-told c = search needs
 
 returns : tie.Need-returns
 returns c =
-    let l : List ℕ = c .before .before .before .args .t1 in
-    ap unpacked (sym (thing-none messages l (was-nothing (claimedBy l) (sym (c .before .before .claimed .ensures) ∙ c .enum-told .given .1))))
+    let at-claimed : tie.After-claimed = search in
+    nothing-told messages answer _ _ (at-claimed .claimed .ensures) (c .enum-told .given .1)
 
 code-requires : tie.Need-code-requires
 code-requires c κs = search needs
@@ -37,17 +35,21 @@ same-requires c κs = search needs
 
 returns-2 : tie.Need-returns-2
 returns-2 c =
-    let l : List ℕ = c .before .before .before .before .before .before .before .before .before .args .t1 in
-    let f = was-message (claimedBy l) _ (sym (c .before .before .before .before .before .before .before .before .claimed .ensures) ∙ c .before .before .before .before .before .before .found .given .1) in
-    ap unpacked
-    (sym (thing-if messages l _ _ _ true true f (c .before .before .before .before .code .ensures) (c .before .same .ensures) refl (and-true _ ∙ c .if1 .taken)))
+    let at-same : tie.After-same = search in
+    let at-code : tie.After-code = search in
+    let at-found : tie.After-found = search in
+    let at-claimed : tie.After-claimed = search in
+    thing-told messages answer _ _ _ _ _ true true (at-claimed .claimed .ensures) (at-found .found .given .1) (at-code .code .ensures)
+    (at-same .same .ensures) refl (and-true _ ∙ c .if1 .taken)
 
 returns-3 : tie.Need-returns-3
 returns-3 c =
-    let l : List ℕ = c .before .before .before .before .before .before .before .before .before .args .t1 in
-    let f = was-message (claimedBy l) _ (sym (c .before .before .before .before .before .before .before .before .claimed .ensures) ∙ c .before .before .before .before .before .before .found .given .1) in
-    ap unpacked
-    (sym (thing-if messages l _ _ _ true false f (c .before .before .before .before .code .ensures) (c .before .same .ensures) refl (and-true _ ∙ c .if1 .left)))
+    let at-same : tie.After-same = search in
+    let at-code : tie.After-code = search in
+    let at-found : tie.After-found = search in
+    let at-claimed : tie.After-claimed = search in
+    thing-told messages answer _ _ _ _ _ true false (at-claimed .claimed .ensures) (at-found .found .given .1) (at-code .code .ensures)
+    (at-same .same .ensures) refl (and-true _ ∙ c .if1 .left)
 
 pub event-of-spec : {M : Type 1} → statement M
 event-of-spec =

@@ -1,7 +1,6 @@
-use mathlib.Core.Bool.{true, false, and-true}
-use mathlib.Core.Path.{refl, sym, ap, _∙_}
-use Rattle.packing.specs.Message.{messages, packed}
-use Rattle.packing.proofs.CodecLaws.{pack-if}
+use mathlib.Core.Path.{refl}
+use Rattle.packing.specs.Message.{messages}
+use Rattle.packing.proofs.CodecLaws.{pack-told}
 use borrow.Author.Needs.{needs}
 use Rattle.packing.proofs.message.pack.Statement.{statement}
 use Rattle.packing.proofs.message.pack.Tie as tie
@@ -9,35 +8,31 @@ use Rattle.packing.proofs.message.pack.Tie as tie
 code-requires : tie.Need-code-requires
 code-requires c κs = search needs
 
-slice-aggregate-fits : tie.Need-slice-aggregate-fits
-slice-aggregate-fits c = search needs
+slice-aggregate-write : tie.Need-slice-aggregate-write
+slice-aggregate-write c = search needs
 
-slice-aggregate-fits-2 : tie.Need-slice-aggregate-fits-2
-slice-aggregate-fits-2 c = search needs
+slice-aggregate-write-2 : tie.Need-slice-aggregate-write-2
+slice-aggregate-write-2 c = search needs
 
-fits-requires : tie.Need-fits-requires
-fits-requires c κs = search needs
+slice-aggregate-write-3 : tie.Need-slice-aggregate-write-3
+slice-aggregate-write-3 c = search needs
 
 write-requires : tie.Need-write-requires
 write-requires c κs = search needs
 
 returns : tie.Need-returns
 returns c =
-    ap packed
-    (sym (pack-if messages _ _ _ _ true true (c .before .before .before .before .before .code .ensures) (c .write .ensures) (c .before .before .fits2 .ensures) refl (and-true _ ∙ c .before .if1 .taken)))
-
-returns-2 : tie.Need-returns-2
-returns-2 c =
-    ap packed (sym (pack-if messages _ _ _ _ true false (c .before .before .before .before .code .ensures) refl (c .before .fits2 .ensures) refl (and-true _ ∙ c .if1 .left)))
+    let at-write : tie.After-write = search in
+    let at-code : tie.After-code = search in
+    pack-told messages _ _ (at-code .code .ensures) refl (at-write .write .ensures)
 
 pub pack-spec : {M : Type 1} → statement M
 pack-spec =
     tie.close
     (tie.spec
     code-requires
-    slice-aggregate-fits
-    slice-aggregate-fits-2
-    fits-requires
+    slice-aggregate-write
+    slice-aggregate-write-2
+    slice-aggregate-write-3
     write-requires
-    returns
-    returns-2)
+    returns)

@@ -1,25 +1,42 @@
-use Prim.Native.Nat.{ℕ}
-use mathlib.Core.List.{List}
-use mathlib.Core.Path.{_∙_, ap, sym}
-use native.Mathlib.Omega.{arith}
-use lib.Seq.{take-all}
-use denote.Ref.{now}
-use Rattle.packing.specs.Codec.{unpackOf}
-use Rattle.packing.specs.Message.{messages, unpacked}
-use Rattle.packing.proofs.CodecLaws.{unpack-other}
-use Rattle.packing.proofs.MessageLaws.{told}
+use mathlib.Core.Bool.{true, false}
+use mathlib.Core.Path.{refl}
+use Rattle.packing.specs.Message.{messages}
+use Rattle.packing.proofs.CodecLaws.{unpack-told}
+use Rattle.packing.proofs.MessageLaws.{answer}
 use borrow.Author.Needs.{needs}
 use Rattle.packing.proofs.message.unpack.Statement.{statement}
 use Rattle.packing.proofs.message.unpack.Tie as tie
 
-unpack-front-requires : tie.Need-unpack-front-requires
-unpack-front-requires c κs = search needs
+slice-aggregate-read : tie.Need-slice-aggregate-read
+slice-aggregate-read c = search needs
+
+slice-aggregate-read-2 : tie.Need-slice-aggregate-read-2
+slice-aggregate-read-2 c = search needs
+
+read-requires : tie.Need-read-requires
+read-requires c κs = search needs
+
+event-of-requires : tie.Need-event-of-requires
+event-of-requires c κs = search needs
 
 returns : tie.Need-returns
-returns c = told (now (c .before .before .before .args .bytes)) _ (c .unpack-front .ensures ∙ ap (λ (l : List ℕ). unpacked (unpackOf messages l)) (take-all (messages .size) _ (omega arith)))
+returns c =
+    let at-if1 : tie.Then1 = search in
+    let at-read : tie.After-read = search in
+    unpack-told messages answer true (at-read .read .ensures) (at-if1 .if1 .taken) (c .event-of .ensures)
 
 returns-2 : tie.Need-returns-2
-returns-2 c = let s : List ℕ = now (c .before .before .args .bytes) in told s _ (ap unpacked (sym (unpack-other messages s (c .if1 .left))))
+returns-2 c =
+    let at-read : tie.After-read = search in
+    unpack-told messages answer false (at-read .read .ensures) (c .if1 .left) refl
 
 pub unpack-spec : {M : Type 1} → statement M
-unpack-spec = tie.close (tie.spec unpack-front-requires returns returns-2)
+unpack-spec =
+    tie.close
+    (tie.spec
+    slice-aggregate-read
+    slice-aggregate-read-2
+    read-requires
+    event-of-requires
+    returns
+    returns-2)

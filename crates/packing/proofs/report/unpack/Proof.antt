@@ -1,17 +1,17 @@
-use Prim.Native.Nat.{ℕ}
-use mathlib.Core.List.{List}
-use mathlib.Core.Path.{_≡_, sym, ap, _∙_}
-use native.Mathlib.Omega.{arith}
-use lib.ListN.{take}
-use lib.Seq.{take-all}
-use denote.Ref.{now}
-use Rattle.packing.specs.Codec.{unpackOf}
-use Rattle.packing.specs.Report.{reports, unpacked}
-use Rattle.packing.proofs.CodecLaws.{unpack-long, unpack-other}
-use Rattle.packing.proofs.ReportLaws.{told}
+use mathlib.Core.Bool.{true, false}
+use mathlib.Core.Path.{refl}
+use Rattle.packing.specs.Report.{reports}
+use Rattle.packing.proofs.CodecLaws.{unpack-told}
+use Rattle.packing.proofs.ReportLaws.{answer}
 use borrow.Author.Needs.{needs}
 use Rattle.packing.proofs.report.unpack.Statement.{statement}
 use Rattle.packing.proofs.report.unpack.Tie as tie
+
+slice-aggregate-read : tie.Need-slice-aggregate-read
+slice-aggregate-read c = search needs
+
+slice-aggregate-read-2 : tie.Need-slice-aggregate-read-2
+slice-aggregate-read-2 c = search needs
 
 read-requires : tie.Need-read-requires
 read-requires c κs = search needs
@@ -21,14 +21,22 @@ report-of-requires c κs = search needs
 
 returns : tie.Need-returns
 returns c =
-    let s : List ℕ = now (c .before .before .before .before .args .bytes) in
-    let e : take (reports .size) s ≡ s = take-all (reports .size) s (omega arith) in
-    told s _
-    (c .report-of .ensures
-    ∙ ap unpacked (sym (unpack-long reports s _ (omega arith) (c .before .read .ensures)) ∙ ap (unpackOf reports) e))
+    let at-if1 : tie.Then1 = search in
+    let at-read : tie.After-read = search in
+    unpack-told reports answer true (at-read .read .ensures) (at-if1 .if1 .taken) (c .report-of .ensures)
 
 returns-2 : tie.Need-returns-2
-returns-2 c = let s : List ℕ = now (c .before .before .args .bytes) in told s _ (ap unpacked (sym (unpack-other reports s (c .if1 .left))))
+returns-2 c =
+    let at-read : tie.After-read = search in
+    unpack-told reports answer false (at-read .read .ensures) (c .if1 .left) refl
 
 pub unpack-spec : {M : Type 1} → statement M
-unpack-spec = tie.close (tie.spec read-requires report-of-requires returns returns-2)
+unpack-spec =
+    tie.close
+    (tie.spec
+    slice-aggregate-read
+    slice-aggregate-read-2
+    read-requires
+    report-of-requires
+    returns
+    returns-2)

@@ -1,9 +1,8 @@
-use Prim.Native.Nat.{ℕ}
 use mathlib.Core.Bool.{true, false}
-use mathlib.Core.List.{List}
-use mathlib.Core.Path.{refl, sym, ap}
-use Rattle.packing.specs.Setup.{setups, unpacked}
-use Rattle.packing.proofs.CodecLaws.{thing-if}
+use mathlib.Core.Path.{refl}
+use Rattle.packing.specs.Setup.{setups}
+use Rattle.packing.proofs.CodecLaws.{thing-told}
+use Rattle.packing.proofs.SetupLaws.{answer}
 use borrow.Author.Needs.{needs}
 use Rattle.packing.proofs.setup.setup_of.Statement.{statement}
 use Rattle.packing.proofs.setup.setup_of.Tie as tie
@@ -40,15 +39,17 @@ is-legal-requires c κs = search needs
 
 returns : tie.Need-returns
 returns c =
-    let l : List ℕ = c .before .before .before .before .before .before .args .t1 in
-    ap unpacked
-    (sym (thing-if setups l _ _ _ _ true refl (c .before .before .before .before .before .code .ensures) (c .before .before .same .ensures) (c .before .is-legal .ensures) (c .if1 .taken)))
+    let at-is-legal : tie.After-is-legal = search in
+    let at-same : tie.After-same = search in
+    let at-code : tie.After-code = search in
+    thing-told setups answer _ _ _ _ _ _ true refl refl (at-code .code .ensures) (at-same .same .ensures) (at-is-legal .is-legal .ensures) (c .if1 .taken)
 
 returns-2 : tie.Need-returns-2
 returns-2 c =
-    let l : List ℕ = c .before .before .before .before .before .before .args .t1 in
-    ap unpacked
-    (sym (thing-if setups l _ _ _ _ false refl (c .before .before .before .before .before .code .ensures) (c .before .before .same .ensures) (c .before .is-legal .ensures) (c .if1 .left)))
+    let at-is-legal : tie.After-is-legal = search in
+    let at-same : tie.After-same = search in
+    let at-code : tie.After-code = search in
+    thing-told setups answer _ _ _ _ _ _ false refl refl (at-code .code .ensures) (at-same .same .ensures) (at-is-legal .is-legal .ensures) (c .if1 .left)
 
 pub setup-of-spec : {M : Type 1} → statement M
 setup-of-spec =

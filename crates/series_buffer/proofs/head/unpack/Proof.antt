@@ -1,15 +1,21 @@
-use Rattle.packing.proofs.CodecLaws.{unpack-long, thing-if}
-use Rattle.series_buffer.specs.Header.{headers}
 use mathlib.Core.Bool.{true, and-true}
 use mathlib.Core.Option.{some}
-use mathlib.Core.Path.{refl, sym, ap, _∙_}
+use mathlib.Core.Path.{refl, sym, ap}
 use denote.Ref.{now}
+use Rattle.packing.proofs.CodecLaws.{unpack-front}
+use Rattle.series_buffer.specs.Header.{headers}
 use borrow.Author.Needs.{needs}
 use Rattle.series_buffer.proofs.head.unpack.Statement.{statement}
 use Rattle.series_buffer.proofs.head.unpack.Tie as tie
 
-read-requires : tie.Need-read-requires
-read-requires c κs = search needs
+slice-aggregate-read-all : tie.Need-slice-aggregate-read-all
+slice-aggregate-read-all c = search needs
+
+slice-aggregate-read-all-2 : tie.Need-slice-aggregate-read-all-2
+slice-aggregate-read-all-2 c = search needs
+
+read-all-requires : tie.Need-read-all-requires
+read-all-requires c κs = search needs
 
 header-by-requires : tie.Need-header-by-requires
 header-by-requires c κs = search needs
@@ -27,13 +33,21 @@ same-requires : tie.Need-same-requires
 same-requires c κs = search needs
 
 returns : tie.Need-returns
-returns c = unpack-long headers (now (c .before .before .before .before .before .before .before .args .s)) _ (c .before .before .before .before .before .before .before .pre) (c .before .before .before .before .before .read .ensures) ∙ thing-if headers _ _ _ _ true (c .same .result) (ap some (sym (c .before .before .before .before .header-by .ensures))) (c .before .before .before .code .ensures) (c .same .ensures) refl (and-true _)
+returns c =
+    let at-code : tie.After-code = search in
+    let at-by : tie.After-header-by = search in
+    let at-read-all : tie.After-read-all = search in
+    let start : tie.Start = search in
+    unpack-front headers (now (start .args .s)) _ _ _ _ true (c .same .result) (start .pre) (at-read-all .read-all .ensures)
+    (ap some (sym (at-by .header-by .ensures))) (at-code .code .ensures) (c .same .ensures) refl (and-true _)
 
 pub unpack-spec : {M : Type 1} → statement M
 unpack-spec =
     tie.close
     (tie.spec
-    read-requires
+    slice-aggregate-read-all
+    slice-aggregate-read-all-2
+    read-all-requires
     header-by-requires
     code-requires
     slice-aggregate-same

@@ -1,22 +1,31 @@
-use Rattle.series_buffer.proofs.EntryLaws.{bytes-read}
-use lib.ListN.{getD}
-use mathlib.Core.List.{List}
-use Prim.Native.Nat.{ℕ, _<_}
-use Rattle.packing.proofs.CodecLaws.{unpack-long, thing-if}
-use Rattle.series_buffer.specs.Entry.{entries}
 use mathlib.Core.Bool.{true, and-true}
 use mathlib.Core.Option.{some}
-use mathlib.Core.Path.{refl, sym, ap, _∙_, subst}
+use mathlib.Core.Path.{refl, sym, ap, subst}
+use Prim.Native.Nat.{ℕ, _<_}
+use mathlib.Core.List.{List}
+use lib.ListN.{getD}
 use denote.Ref.{now}
+use Rattle.series_buffer.proofs.EntryLaws.{bytes-read}
+use Rattle.packing.proofs.CodecLaws.{unpack-front}
+use Rattle.series_buffer.specs.Entry.{entries}
 use borrow.Author.Needs.{needs}
 use Rattle.series_buffer.proofs.places.unpack.Statement.{statement}
 use Rattle.series_buffer.proofs.places.unpack.Tie as tie
 
-read-requires : tie.Need-read-requires
-read-requires c κs = search needs
+slice-aggregate-read-all : tie.Need-slice-aggregate-read-all
+slice-aggregate-read-all c = search needs
+
+slice-aggregate-read-all-2 : tie.Need-slice-aggregate-read-all-2
+slice-aggregate-read-all-2 c = search needs
+
+read-all-requires : tie.Need-read-all-requires
+read-all-requires c κs = search needs
 
 entry-by-requires : tie.Need-entry-by-requires
-entry-by-requires c κs = subst (λ (l : List ℕ). (getD l 5 0 < 256) × (getD l 6 0 < 256)) (sym (c .read .ensures)) (bytes-read (now (c .before .before .args .s)))
+entry-by-requires c κs =
+    let at-read-all : tie.After-read-all = search in
+    let start : tie.Start = search in
+    subst (λ (l : List ℕ). (getD l 5 0 < 256) × (getD l 6 0 < 256)) (sym (at-read-all .read-all .ensures)) (bytes-read (now (start .args .s)))
 
 code-requires : tie.Need-code-requires
 code-requires c κs = search needs
@@ -31,13 +40,21 @@ same-requires : tie.Need-same-requires
 same-requires c κs = search needs
 
 returns : tie.Need-returns
-returns c = unpack-long entries (now (c .before .before .before .before .before .before .before .args .s)) _ (c .before .before .before .before .before .before .before .pre) (c .before .before .before .before .before .read .ensures) ∙ thing-if entries _ _ _ _ true (c .same .result) (ap some (sym (c .before .before .before .before .entry-by .ensures))) (c .before .before .before .code .ensures) (c .same .ensures) refl (and-true _)
+returns c =
+    let at-code : tie.After-code = search in
+    let at-by : tie.After-entry-by = search in
+    let at-read-all : tie.After-read-all = search in
+    let start : tie.Start = search in
+    unpack-front entries (now (start .args .s)) _ _ _ _ true (c .same .result) (start .pre) (at-read-all .read-all .ensures)
+    (ap some (sym (at-by .entry-by .ensures))) (at-code .code .ensures) (c .same .ensures) refl (and-true _)
 
 pub unpack-spec : {M : Type 1} → statement M
 unpack-spec =
     tie.close
     (tie.spec
-    read-requires
+    slice-aggregate-read-all
+    slice-aggregate-read-all-2
+    read-all-requires
     entry-by-requires
     code-requires
     slice-aggregate-same
