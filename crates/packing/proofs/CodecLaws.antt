@@ -13,7 +13,8 @@ use Rattle.bits.specs.Fields.{total, join, split, bytes, Bytes, Fit, allFit, eq
 use Rattle.bits.proofs.FieldLaws.{recode, split-fit, length-split}
 use Rattle.bits.proofs.ByteLaws.{fit-bytes, join-take}
 use Rattle.bits.proofs.TestLaws.{both-left, both-right, equal-true, equal-refl, allFit-true, fit-allFit}
-use Rattle.packing.specs.Codec.{Codec, FieldsRead, FieldsWritten, bit, onlyIf, packedAs, fieldsIn, bytesOf, checked, thingOf, unpackOf, answerOf, packs, packOf}
+use Rattle.packing.specs.Codec.{Codec, FieldsRead, FieldsWritten, bit, onlyIf, packedAs}
+use Rattle.packing.specs.Codec.{fieldsIn, bytesOf, checked, thingOf, unpackOf, answerOf, packs, packOf}
 
 -- a side or a flag can be told from its bit
 pub bit-is : (b : Bool) → eqb (bit b) 1 ≡ b
@@ -67,21 +68,15 @@ module _ {E : Type 0} (C : Codec E) where
       ∙ ap (thingOf C) (sym (f .read ∙ ap (λ (b : Bool). cond b (fieldsIn C s) stood) h))
   unpack-read s stood xs ok false f h = ap (λ (b : Bool). onlyIf b (thingOf C (fieldsIn C s))) (sym (f .long) ∙ h)
 
--- AN UNPACKER'S ANSWER, in a type of Rattle's
+-- AN UNPACKER'S ANSWER in a type of Rattle's: how it is told, which it was then, and document 01's number and fields for it
 pub record Answer {E : Type 0} (C : Codec E) (U : Type 0) : Type 0 where
-  -- how it is told; and what it was told of
   pub told : Option E → U
-  pub heard : U → Option E
-  pub hears : (u : Option E) → heard (told u) ≡ u
-  -- document 01's number and fields for it
+  pub was-none : (u : Option E) → told u ≡ told none → u ≡ none
+  pub was-some : (u : Option E) (e : E) → told u ≡ told (some e) → u ≡ some e
   pub said : U → ℕ × List ℕ
   pub says : (u : Option E) → said (told u) ≡ answerOf C u
 
 module _ {E U : Type 0} (C : Codec E) (A : Answer C U) where
-  -- it says which it is
-  pub was : (u v : Option E) → A .told u ≡ A .told v → u ≡ v
-  was u v h = sym (A .hears u) ∙ ap (A .heard) h ∙ A .hears v
-
   -- where it is right, so are its number and fields
   pub right : (u : Option E) (r : U) → r ≡ A .told u → (r ≡ A .told u) × (A .said r ≡ answerOf C u)
   right u r h = (h, ap (A .said) h ∙ A .says u)
@@ -89,13 +84,13 @@ module _ {E U : Type 0} (C : Codec E) (A : Answer C U) where
   -- WHAT FIELDS SAY: nothing was found to be claimed by them; or e was, and b is the outcome of the tests
   pub nothing-told : (l : List ℕ) (found : U) → found ≡ A .told (C .claimed l) → found ≡ A .told none → A .told none ≡ A .told (thingOf C l)
   unfolding thingOf
-  nothing-told l found h k = ap (λ (u : Option E). A .told (checked C u l)) (was none (C .claimed l) (sym k ∙ h))
+  nothing-told l found h k = ap (λ (u : Option E). A .told (checked C u l)) (sym (A .was-none (C .claimed l) (sym h ∙ k)))
 
   pub thing-told : (l ys : List ℕ) (found : U) (e : E) (same ok b : Bool) → found ≡ A .told (C .claimed l) → found ≡ A .told (some e)
       → ys ≡ C .code e → same ≡ equal ys l → ok ≡ C .admitted e → (same && ok) ≡ b
       → A .told (onlyIf b (some e)) ≡ A .told (thingOf C l)
   thing-told l ys found e same ok b h k c s a t =
-      ap (A .told) (sym (thing-if C l ys e same ok b (was (C .claimed l) (some e) (sym h ∙ k)) c s a t))
+      ap (A .told) (sym (thing-if C l ys e same ok b (A .was-some (C .claimed l) e (sym h ∙ k)) c s a t))
 
   -- WHAT BYTES UNPACK TO: `codec::read` answered b, and the answer was made of the fields that it read
   pub unpack-told : {s stood xs : List ℕ} {ok : Bool} (b : Bool) {r : U} → FieldsRead s (C .size) (C .widths) stood ok xs → ok ≡ b
@@ -104,28 +99,18 @@ module _ {E U : Type 0} (C : Codec E) (A : Answer C U) where
   unpack-told {s} {stood} {xs} {ok} b {r} f h e = right (unpackOf C s) r (e ∙ ap (A .told) (sym (unpack-read C s stood xs ok b f h)))
 
 -- WHAT A THING PACKS TO: `codec::write` answered ok, and left `out` where zeros stood
-pub pack-told : {E P : Type 0} (C : Codec E) (make : Bool → List ℕ → P) (e : E) {xs out : List ℕ} {ok admitted : Bool}
-    → xs ≡ C .code e → admitted ≡ C .admitted e → FieldsWritten (replicate (C .size) 0) (C .widths) xs admitted ok out
-    → make ok out ≡ packedAs make (C .size) (packOf C e)
-unfolding packOf packs bytesOf
-pack-told {E} {P} C make e {xs} {out} {ok} {admitted} x a w = by ok refl
-  where
-    zeros : List ℕ
-    zeros = replicate (C .size) 0
+module _ {E P : Type 0} (C : Codec E) (make : Bool → List ℕ → P) (e : E) where
+  abbrev made : Bool → P
+  made b = packedAs make (C .size) (onlyIf b (some (bytesOf C (C .code e))))
 
-    made : Bool → P
-    made b = packedAs make (C .size) (onlyIf b (some (bytesOf C (C .code e))))
-
-    packs-so : ok ≡ packs C e
-    packs-so = w .fit ∙ ap₂ _&&_ (ap (allFit (C .widths)) x) a
-
-    left : (b : Bool) → ok ≡ b → out ≡ cond b (bytesOf C (C .code e)) zeros
-    left b h = w .written ∙ ap₂ (λ (n : ℕ) (l : List ℕ). cond ok (split (bytes n) (join (C .widths) l)) zeros) (length-replicate (C .size) 0) x
-        ∙ ap (λ (z : Bool). cond z (bytesOf C (C .code e)) zeros) h
-
-    by : (b : Bool) → ok ≡ b → make ok out ≡ made (packs C e)
-    by true h = ap₂ make h (left true h) ∙ ap made (sym h ∙ packs-so)
-    by false h = ap₂ make h (left false h) ∙ ap made (sym h ∙ packs-so)
+  pub pack-told : {xs out : List ℕ} {ok admitted : Bool} → xs ≡ C .code e → admitted ≡ C .admitted e
+      → FieldsWritten (replicate (C .size) 0) (C .widths) xs admitted ok out
+      → make ok out ≡ packedAs make (C .size) (packOf C e)
+  unfolding packOf packs bytesOf
+  pack-told {ok = true} x a w =
+      ap (make true) (w .written ∙ ap₂ (λ (n : ℕ) (l : List ℕ). split (bytes n) (join (C .widths) l)) (length-replicate (C .size) 0) x)
+      ∙ ap made (w .fit ∙ ap₂ _&&_ (ap (allFit (C .widths)) x) a)
+  pack-told {ok = false} x a w = ap (make false) (w .written) ∙ ap made (w .fit ∙ ap₂ _&&_ (ap (allFit (C .widths)) x) a)
 
 -- What the table of a codec has to meet
 pub record Lawful {E : Type 0} (C : Codec E) : Type 0 where
@@ -139,8 +124,10 @@ module _ {E : Type 0} (C : Codec E) where
   -- THEOREM. A thing packs exactly when each of its fields fits its width and it is admitted
   pub packs-fit : (e : E) → packs C e ≡ true → Fit (C .widths) (C .code e) × (C .admitted e ≡ true)
   unfolding packs
-  packs-fit e h =
-      (allFit-true (C .widths) (C .code e) (both-left (allFit (C .widths) (C .code e)) (C .admitted e) h), both-right (allFit (C .widths) (C .code e)) (C .admitted e) h)
+  packs-fit e h = (
+    allFit-true (C .widths) (C .code e) (both-left (allFit (C .widths) (C .code e)) (C .admitted e) h),
+    both-right (allFit (C .widths) (C .code e)) (C .admitted e) h,
+  )
 
   pub fit-packs : (e : E) → Fit (C .widths) (C .code e) → C .admitted e ≡ true → packs C e ≡ true
   unfolding packs

@@ -10,12 +10,13 @@ use lib.ListN.{length, drop, length-drop}
 use borrow.Author.Tests.{ne-eqb}
 use Rattle.packing.specs.declared.message.Entering.{Entering}
 use Rattle.packing.specs.declared.message.Event.{Event}
-use Rattle.packing.specs.declared.message.Event.the-variants.{Plain, Mmlo, Mmalo, Mmrp, Displayed, Dark, CancelEntry, CancelQuote, Away, Underlying, Phase, Enable}
+use Rattle.packing.specs.declared.message.Event.the-variants.{Plain, Mmlo, Mmalo, Mmrp, Displayed, Dark, CancelEntry}
+use Rattle.packing.specs.declared.message.Event.the-variants.{CancelQuote, Away, Underlying, Phase, Enable}
 use Rattle.packing.specs.declared.message.Unpacked.{Unpacked}
 use Rattle.packing.specs.declared.message.Unpacked.the-variants.{Message, Nothing}
 use Rattle.packing.specs.Codec.{bit, lookUp, answerOf, unpackOf}
 use Rattle.packing.specs.Message.{codeOf, byKind, claimedBy, messages, messageAt, unpacked, eventIn, saidBy}
-use Rattle.packing.proofs.CodecLaws.{Lawful, bit-is, Answer, was, right, unpack-short}
+use Rattle.packing.proofs.CodecLaws.{Lawful, bit-is, Answer, right, unpack-short}
 
 -- no other kind is in the table
 pub unknown-kind : (k : ℕ) (t : Entering) (second entry : ℕ)
@@ -61,24 +62,26 @@ code-claimed (Enable party) = refl
 pub lawful : Lawful messages
 lawful = record { whole = refl; long = refl; code-claimed = code-claimed }
 
--- an answer in Rattle's type holds what was unpacked
+-- an answer in Rattle's type holds what was unpacked, and says which it is
 pub event-in : (u : Option Event) → eventIn (unpacked u) ≡ u
 event-in none = refl
 event-in (some e) = refl
 
--- the answers in Rattle's types
+pub was-nothing : (u : Option Event) → unpacked u ≡ Nothing → u ≡ none
+was-nothing none h = refl
+was-nothing (some e) h = absurd (let z : _≡_ {A = ℕ} 0 1 = cc in omega arith)
+
+pub was-message : (u : Option Event) (e : Event) → unpacked u ≡ Message e → u ≡ some e
+was-message none e h = absurd (let z : _≡_ {A = ℕ} 0 1 = cc in omega arith)
+was-message (some d) e h = let s : d ≡ e = cc in ap some s
+
+-- and has document 01's number and fields
 abbrev pub answer : Answer messages Unpacked
-answer = record { told = unpacked; heard = eventIn; hears = event-in; said = saidBy; says = says }
+answer = record { told = unpacked; was-none = was-nothing; was-some = was-message; said = saidBy; says = says }
   where
     says : (u : Option Event) → saidBy (unpacked u) ≡ answerOf messages u
     says none = refl
     says (some e) = refl
-
-pub was-nothing : (u : Option Event) → unpacked u ≡ Nothing → u ≡ none
-was-nothing u = was messages answer u none
-
-pub was-message : (u : Option Event) (e : Event) → unpacked u ≡ Message e → u ≡ some e
-was-message u e = was messages answer u (some e)
 
 -- too few bytes from a place to the run's end
 pub short : (run : List ℕ) (at : ℕ) → length run < at + messages .size

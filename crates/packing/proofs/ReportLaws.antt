@@ -15,7 +15,7 @@ use Rattle.packing.specs.declared.report.Unpacked.the-variants.{Told, No
 use Rattle.packing.specs.declared.report.Packed.{Packed}
 use Rattle.packing.specs.Codec.{bit, lookUp, packs, answerOf}
 use Rattle.packing.specs.Report.{nineFields, fieldsOf, codeOf, byKind, kindsOf, claimedBy, reports, unpacked, packed, saidBy}
-use Rattle.packing.proofs.CodecLaws.{Lawful, bit-is, fit-packs, Answer, was}
+use Rattle.packing.proofs.CodecLaws.{Lawful, bit-is, fit-packs, Answer}
 
 -- what is not of kinds 1 to 3 is looked up among the later kinds, and no kind but 1 to 6 is in the table
 pub later-kind : (k : ℕ) (l : List ℕ) → (k ≡ 1 → ⊥) → (k ≡ 2 → ⊥) → (k ≡ 3 → ⊥) → lookUp k (kindsOf l) ≡ lookUp k (drop 3 (kindsOf l))
@@ -54,27 +54,22 @@ code-claimed (Cancelled reason sell party entry limit quantity) = ap (λ (s : Bo
 pub lawful : Lawful reports
 lawful = record { whole = refl; long = refl; code-claimed = code-claimed }
 
--- the answers in Rattle's types
+-- an answer in Rattle's type says which it is
+pub was-nothing : (u : Option Report) → unpacked u ≡ Nothing → u ≡ none
+was-nothing none h = refl
+was-nothing (some r) h = absurd (let z : _≡_ {A = ℕ} 0 1 = cc in omega arith)
+
+pub was-told : (u : Option Report) (r : Report) → unpacked u ≡ Told r → u ≡ some r
+was-told none r h = absurd (let z : _≡_ {A = ℕ} 0 1 = cc in omega arith)
+was-told (some q) r h = let e : q ≡ r = cc in ap some e
+
+-- and has document 01's number and fields
 abbrev pub answer : Answer reports Unpacked
-answer = record { told = unpacked; heard = heard; hears = hears; said = saidBy; says = says }
+answer = record { told = unpacked; was-none = was-nothing; was-some = was-told; said = saidBy; says = says }
   where
-    heard : Unpacked → Option Report
-    heard Nothing = none
-    heard (Told r) = some r
-
-    hears : (u : Option Report) → heard (unpacked u) ≡ u
-    hears none = refl
-    hears (some r) = refl
-
     says : (u : Option Report) → saidBy (unpacked u) ≡ answerOf reports u
     says none = refl
     says (some r) = refl
-
-pub was-nothing : (u : Option Report) → unpacked u ≡ Nothing → u ≡ none
-was-nothing u = was reports answer u none
-
-pub was-told : (u : Option Report) (r : Report) → unpacked u ≡ Told r → u ≡ some r
-was-told u r = was reports answer u (some r)
 
 pub was-packed : (u : Option (List ℕ)) (p : Packed) → p ≡ packed u → p .ok ≡ true → u ≡ some (p .bytes)
 was-packed none p e h =

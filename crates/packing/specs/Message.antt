@@ -7,13 +7,17 @@ use lib.Dec.{eqb}
 use lib.ListN.{getD, take, drop}
 use Rattle.packing.specs.declared.message.Entering.{Entering}
 use Rattle.packing.specs.declared.message.Event.{Event}
-use Rattle.packing.specs.declared.message.Event.the-variants.{Plain, Mmlo, Mmalo, Mmrp, Displayed, Dark, CancelEntry, CancelQuote, Away, Underlying, Phase, Enable}
+use Rattle.packing.specs.declared.message.Event.the-variants.{Plain, Mmlo, Mmalo, Mmrp, Displayed, Dark, CancelEntry}
+use Rattle.packing.specs.declared.message.Event.the-variants.{CancelQuote, Away, Underlying, Phase, Enable}
 use Rattle.packing.specs.declared.message.Unpacked.{Unpacked}
 use Rattle.packing.specs.declared.message.Unpacked.the-variants.{Message, Nothing}
 use Rattle.packing.specs.declared.message.Packed.{Packed}
 use Rattle.packing.specs.Codec.{Codec, nothing, packedAs, bit, lookUp}
 
 -- "A message is 11 bytes: kind 4 bits, party 7, side 1 (0 buy, 1 sell), price 17, quantity 17, second price 17, entry 20, five zero bits."
+abbrev pub messageSize : ℕ
+messageSize = 11
+
 abbrev pub widths : List ℕ
 widths = 4 ∷ 7 ∷ 1 ∷ 17 ∷ 17 ∷ 17 ∷ 20 ∷ 5 ∷ []
 
@@ -61,12 +65,12 @@ claimedBy l =
 
 -- whether values are in range is not asked here: that is refusal 2, 3 or 4
 abbrev pub messages : Codec Event
-messages = record { widths = widths; size = 11; code = codeOf; claimed = claimedBy; admitted = λ _. true }
+messages = record { widths = widths; size = messageSize; code = codeOf; claimed = claimedBy; admitted = λ _. true }
 
 -- "A message in a long run is judged where it stands in the run, not copied out; a place with fewer than 11 bytes from it to the
 -- run's end holds a message of wrong length": these bytes are then fewer than 11
 abbrev pub messageAt : List ℕ → ℕ → List ℕ
-messageAt run at = take 11 (drop at run)
+messageAt run at = take messageSize (drop at run)
 
 -- the answers in Rattle's types
 abbrev pub unpacked : Option Event → Unpacked

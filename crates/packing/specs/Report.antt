@@ -13,6 +13,9 @@ use Rattle.packing.specs.declared.report.Packed.{Packed}
 use Rattle.packing.specs.Codec.{Codec, nothing, packedAs, bit, lookUp}
 
 -- "14 bytes: kind 3 bits, reason 5, side 1, party 7, entry 20, other entry 20, price 17, second 17, quantity 17, five zero bits."
+abbrev pub reportSize : ℕ
+reportSize = 14
+
 abbrev pub widths : List ℕ
 widths = 3 ∷ 5 ∷ 1 ∷ 7 ∷ 20 ∷ 20 ∷ 17 ∷ 17 ∷ 17 ∷ 5 ∷ []
 
@@ -60,7 +63,7 @@ abbrev pub claimedBy : List ℕ → Option Report
 claimedBy l = lookUp (getD l 0 0) (kindsOf l)
 
 abbrev pub reports : Codec Report
-reports = record { widths = widths; size = 14; code = codeOf; claimed = claimedBy; admitted = λ _. true }
+reports = record { widths = widths; size = reportSize; code = codeOf; claimed = claimedBy; admitted = λ _. true }
 
 -- the answers in Rattle's types
 abbrev pub unpacked : Option Report → Unpacked

@@ -12,6 +12,9 @@ use Rattle.packing.specs.declared.setup.Packed.{Packed}
 use Rattle.packing.specs.Codec.{Codec, nothing, packedAs, bit}
 
 -- "Setup is 4 packed bytes, most significant bit first: put 1 bit, exempt 1, M 4, K 7, strike 17, two zero bits."
+abbrev pub setupSize : ℕ
+setupSize = 4
+
 abbrev pub widths : List ℕ
 widths = 1 ∷ 1 ∷ 4 ∷ 7 ∷ 17 ∷ 2 ∷ []
 
@@ -31,7 +34,7 @@ legalSetup s =
     (eqb (s .m) 1 || (eqb (s .m) 5 || eqb (s .m) 10)) && (leb (s .k) 100 && (leb 1 (s .strike) && leb (s .strike) topStrike))
 
 abbrev pub setups : Codec Setup
-setups = record { widths = widths; size = 4; code = codeOf; claimed = claimedBy; admitted = legalSetup }
+setups = record { widths = widths; size = setupSize; code = codeOf; claimed = claimedBy; admitted = legalSetup }
 
 -- the answers in Rattle's types
 abbrev pub unpacked : Option Setup → Unpacked

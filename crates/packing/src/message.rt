@@ -39,7 +39,7 @@ pub struct Packed {
 }
 
 // How many bytes one has.
-const SIZE: usize = 11;
+pub const SIZE: usize = 11;
 
 // The widths of the fields, in bits: kind, party, side, price, quantity, second price, entry, zero bits.
 const WIDTHS: [u8; 8] = [4, 7, 1, 17, 17, 17, 20, 5];

@@ -62,7 +62,7 @@ pub struct Packed {
 }
 
 // How many bytes one has.
-const SIZE: usize = 14;
+pub const SIZE: usize = 14;
 
 // The widths of the fields, in bits: kind, reason, side, party, entry, other entry, price, second, quantity, zero bits.
 const WIDTHS: [u8; 10] = [3, 5, 1, 7, 20, 20, 17, 17, 17, 5];

@@ -3,13 +3,14 @@ ghost use mathlib.Core.Path.{_≡_};
 ghost use Prim.Native.Nat.{_+_, _*_, _≤_, _<_};
 ghost use lib.ListN.{length};
 ghost use lib.Seq.{sets};
+ghost use Rattle.packing.specs.Report.{reportSize};
 ghost use Rattle.packing.specs.Room.{isPut, roomAfter};
 use crate::report::Report;
 
-// How many reports a message may have, and how many bytes of room they take.
+// The most reports that one message makes, and the bytes that they take: the room that a caller must lend for it.
 pub const MOST_REPORTS: usize = 2280;
 
-pub const ROOM: usize = 31920;
+pub const ROOM: usize = MOST_REPORTS * crate::report::SIZE;
 
 // Stores the bytes of `part` from `start` on.
 pub fn store(room: &mut [u8], start: usize, part: &[u8])
@@ -25,10 +26,10 @@ pub fn store(room: &mut [u8], start: usize, part: &[u8])
 
 // The first byte of place `at`.
 fn start_of(at: usize) -> usize
-    requires { ⌜ 14 * at < 18446744073709551615 ⌝ }
-    ensures { λ r. ⌜ r ≡ 14 * at ⌝ }
+    requires { ⌜ reportSize * at < 18446744073709551615 ⌝ }
+    ensures { λ r. ⌜ r ≡ reportSize * at ⌝ }
 {
-    14 * at
+    crate::report::SIZE * at
 }
 
 // Writes a report as number `at` of the room, counted from 0. Answers false, and leaves the room as it was, where that place is not
@@ -36,7 +37,7 @@ fn start_of(at: usize) -> usize
 pub fn put_report(room: &mut [u8], at: usize, report: Report) -> bool
     ensures { λ r. ⌜ (r ≡ isPut (now (room .entry)) at report) × (now (room .exit) ≡ roomAfter (now (room .entry)) at report) ⌝ }
 {
-    if room.len() / 14 <= at {
+    if room.len() / crate::report::SIZE <= at {
         return false;
     }
     let packed = crate::report::pack(report);

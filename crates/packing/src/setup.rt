@@ -25,7 +25,10 @@ pub struct Packed {
 pub const TOP_STRIKE: u32 = 100000;
 
 // How many bytes one has.
-const SIZE: usize = 4;
+pub const SIZE: usize = 4;
+
+// The largest strike.
+pub const TOP_STRIKE: u32 = 100000;
 
 // The widths of the fields, in bits: put, exempt, M, K, strike, zero bits.
 const WIDTHS: [u8; 6] = [1, 1, 4, 7, 17, 2];

@@ -12,7 +12,7 @@ use Rattle.packing.proofs.CodecLaws.{Lawful, bit-is}
 use Rattle.book.specs.declared.Entry.{Entry}
 use Rattle.book.specs.declared.Pricing.{Pricing}
 use Rattle.book.specs.declared.Pricing.the-variants.{Fixed, Dark, Sliding}
-use Rattle.series_buffer.specs.Entry.{entries, widths, codeOf, pricingNumber, ownDisplay, pricingBy, entryBy}
+use Rattle.series_buffer.specs.Entry.{entrySize, entries, widths, codeOf, pricingNumber, ownDisplay, pricingBy, entryBy}
 
 pricing-claimed : (p : Pricing) → pricingBy (pricingNumber p) (ownDisplay p) ≡ p
 pricing-claimed Fixed = refl
@@ -37,4 +37,4 @@ lawful = record { whole = refl; long = refl; code-claimed = code-claimed }
 
 -- a party and a kind that were read fit a byte
 pub bytes-read : (s : List ℕ) → (getD (fieldsIn entries s) 5 0 < 256) × (getD (fieldsIn entries s) 6 0 < 256)
-bytes-read s = let f = split-fit widths (join (bytes 24) s) in (f .1 .1 .1 .1 .1 .0, f .1 .1 .1 .1 .1 .1 .0)
+bytes-read s = let f = split-fit widths (join (bytes entrySize) s) in (f .1 .1 .1 .1 .1 .0, f .1 .1 .1 .1 .1 .1 .0)

@@ -13,8 +13,8 @@ use Rattle.packing.specs.Codec.{onlyIf, bytesOf, unpackOf}
 use Rattle.packing.proofs.CodecLaws.{length-bytes}
 use Rattle.book.specs.declared.Entry.{Entry}
 use Rattle.book.specs.Shape.{zeroEntry}
-use Rattle.series_buffer.specs.Entry.{entries}
-use Rattle.series_buffer.specs.State.{joined, entriesIn, entriesBytes}
+use Rattle.series_buffer.specs.Entry.{entrySize, entries}
+use Rattle.series_buffer.specs.State.{placesSize, joined, entriesIn, entriesBytes}
 use Rattle.series_buffer.proofs.EntryLaws.{lawful}
 
 -- ---- reading ----
@@ -32,7 +32,7 @@ behind-one : (l : List Entry) (e : Entry) (o : Option (List Entry)) → behind l
 behind-one l e none = refl
 behind-one l e (some es) = ap some (sym (append-assoc l (e ∷ []) es))
 
-next-entry : (n k : ℕ) (s : List ℕ) → n ≡ suc k → entriesIn n s ≡ joined (unpackOf entries (take 24 s)) (entriesIn k (drop 24 s))
+next-entry : (n k : ℕ) (s : List ℕ) → n ≡ suc k → entriesIn n s ≡ joined (unpackOf entries (take entrySize s)) (entriesIn k (drop entrySize s))
 unfolding entriesIn
 next-entry n k s h = rw h refl
 
@@ -43,7 +43,7 @@ no-entry n s h = rw h refl
 pub record Reading (s : List ℕ) (i : ℕ) (es : List Entry) : Type 0 where
   pub within : i ≤ 64
   pub places : length es ≡ 64
-  pub left : behind (take i es) (entriesIn (64 - i) (drop (24 * i) s)) ≡ entriesIn 64 s
+  pub left : behind (take i es) (entriesIn (64 - i) (drop (entrySize * i) s)) ≡ entriesIn 64 s
 
 pub read-start : (s : List ℕ) (es : List Entry) → length es ≡ 64 → Reading s 0 es
 read-start s es h = record { within = omega arith; places = h; left = behind-nothing (entriesIn 64 s) }
@@ -52,52 +52,56 @@ module _ (s : List ℕ) (i : ℕ) (es : List Entry) (v : Reading s i es) where
   pub read-done : 64 ≤ i → entriesIn 64 s ≡ some es
   read-done h =
       sym (v .left)
-      ∙ ap (behind (take i es)) (no-entry (64 - i) (drop (24 * i) s) (omega arith))
+      ∙ ap (behind (take i es)) (no-entry (64 - i) (drop (entrySize * i) s) (omega arith))
       ∙ ap some (append-nil (take i es) ∙ take-all i es (omega (arith, v .places)))
 
-  module _ (inside : i < 64) (part : List ℕ) (there : part ≡ take (length s - 24 * i) (drop (24 * i) s)) (ok : Bool) (e : Entry)
-      (found : unpackOf entries (take 24 part) ≡ onlyIf ok (some e)) where
-    here : behind (take i es) (joined (onlyIf ok (some e)) (entriesIn (64 - (i + 1)) (drop (24 * (i + 1)) s))) ≡ entriesIn 64 s
+  module _ (inside : i < 64) (part : List ℕ) (there : part ≡ take (length s - entrySize * i) (drop (entrySize * i) s)) (ok : Bool) (e : Entry)
+      (found : unpackOf entries (take entrySize part) ≡ onlyIf ok (some e)) where
+    here : behind (take i es) (joined (onlyIf ok (some e)) (entriesIn (64 - (i + 1)) (drop (entrySize * (i + 1)) s))) ≡ entriesIn 64 s
     here =
-        let whole : part ≡ drop (24 * i) s = there ∙ take-all (length s - 24 * i) (drop (24 * i) s) (omega (arith, length-drop (24 * i) s)) in
-        let moved : 24 * i + 24 ≡ 24 * (i + 1) = omega arith in
-        let next : drop 24 (drop (24 * i) s) ≡ drop (24 * (i + 1)) s = drop-drop 24 (24 * i) s ∙ ap (λ (k : ℕ). drop k s) moved in
+        let whole : part ≡ drop (entrySize * i) s =
+        there ∙ take-all (length s - entrySize * i) (drop (entrySize * i) s) (omega (arith, length-drop (entrySize * i) s)) in
+        let moved : entrySize * i + entrySize ≡ entrySize * (i + 1) = omega arith in
+        let next : drop entrySize (drop (entrySize * i) s) ≡ drop (entrySize * (i + 1)) s =
+        drop-drop entrySize (entrySize * i) s ∙ ap (λ (k : ℕ). drop k s) moved in
         ap (behind (take i es))
-        (ap₂ joined (sym found ∙ ap (λ (t : List ℕ). unpackOf entries (take 24 t)) whole) (ap (entriesIn (64 - (i + 1))) (sym next))
-        ∙ sym (next-entry (64 - i) (64 - (i + 1)) (drop (24 * i) s) (omega arith)))
+        (ap₂ joined (sym found ∙ ap (λ (t : List ℕ). unpackOf entries (take entrySize t)) whole) (ap (entriesIn (64 - (i + 1))) (sym next))
+        ∙ sym (next-entry (64 - i) (64 - (i + 1)) (drop (entrySize * i) s) (omega arith)))
         ∙ v .left
 
     pub read-fail : ok ≡ false → entriesIn 64 s ≡ none
-    read-fail h = sym here ∙ ap (λ (b : Bool). behind (take i es) (joined (onlyIf b (some e)) (entriesIn (64 - (i + 1)) (drop (24 * (i + 1)) s)))) h
+    read-fail h = sym here ∙ ap (λ (b : Bool). behind (take i es) (joined (onlyIf b (some e)) (entriesIn (64 - (i + 1)) (drop (entrySize * (i + 1)) s)))) h
 
     pub read-past : ok ≡ true → Reading s (i + 1) (set es i e)
     read-past h = record {
       within = omega arith;
       places = length-set es i e ∙ v .places;
       left =
-          ap (λ (l : List Entry). behind l (entriesIn (64 - (i + 1)) (drop (24 * (i + 1)) s)))
+          ap (λ (l : List Entry). behind l (entriesIn (64 - (i + 1)) (drop (entrySize * (i + 1)) s)))
           (ap (λ (k : ℕ). take k (set es i e)) (add-one i) ∙ take-suc-set es i e (omega (arith, v .places)))
-          ∙ sym (behind-one (take i es) e (entriesIn (64 - (i + 1)) (drop (24 * (i + 1)) s)))
-          ∙ ap (λ (b : Bool). behind (take i es) (joined (onlyIf b (some e)) (entriesIn (64 - (i + 1)) (drop (24 * (i + 1)) s)))) (sym h)
+          ∙ sym (behind-one (take i es) e (entriesIn (64 - (i + 1)) (drop (entrySize * (i + 1)) s)))
+          ∙ ap (λ (b : Bool). behind (take i es) (joined (onlyIf b (some e)) (entriesIn (64 - (i + 1)) (drop (entrySize * (i + 1)) s)))) (sym h)
           ∙ here;
     }
 
 -- the part of the bytes from an entry on holds that entry
-pub part-read : (s : List ℕ) (i : ℕ) → length s ≡ 1536 → i < 64 → 24 ≤ length (take (length s - 24 * i) (drop (24 * i) s))
+pub part-read : (s : List ℕ) (i : ℕ) → length s ≡ placesSize → i < 64 → entrySize ≤ length (take (length s - entrySize * i) (drop (entrySize * i) s))
 part-read s i h k =
-    let all : take (length s - 24 * i) (drop (24 * i) s) ≡ drop (24 * i) s = take-all (length s - 24 * i) (drop (24 * i) s) (omega (arith, length-drop (24 * i) s)) in
-    omega (arith, ap length all, length-drop (24 * i) s, h, k)
+    let all : take (length s - entrySize * i) (drop (entrySize * i) s) ≡ drop (entrySize * i) s =
+    take-all (length s - entrySize * i) (drop (entrySize * i) s) (omega (arith, length-drop (entrySize * i) s)) in
+    omega (arith, ap length all, length-drop (entrySize * i) s, h, k)
 
 -- ---- writing ----
 
-pub part-written : (out : List ℕ) (i : ℕ) → length out ≡ 1536 → i < 64 → length (take (24 * i + 24 - 24 * i) (drop (24 * i) out)) ≡ 24
+pub part-written : (out : List ℕ) (i : ℕ) → length out ≡ placesSize → i < 64
+    → length (take (entrySize * i + entrySize - entrySize * i) (drop (entrySize * i) out)) ≡ entrySize
 part-written out i h k =
-    length-take-le (24 * i + 24 - 24 * i) (drop (24 * i) out) (omega (arith, length-drop (24 * i) out, h, k)) ∙ omega arith
+    length-take-le (entrySize * i + entrySize - entrySize * i) (drop (entrySize * i) out) (omega (arith, length-drop (entrySize * i) out, h, k)) ∙ omega arith
 
-pub length-entry : (e : Entry) → length (bytesOf entries (entries .code e)) ≡ 24
+pub length-entry : (e : Entry) → length (bytesOf entries (entries .code e)) ≡ entrySize
 length-entry e = length-bytes entries lawful (entries .code e)
 
-pub length-entries : (es : List Entry) → length (entriesBytes es) ≡ 24 * length es
+pub length-entries : (es : List Entry) → length (entriesBytes es) ≡ entrySize * length es
 unfolding entriesBytes
 length-entries [] = refl
 length-entries (e ∷ es) = omega (arith, length-append (bytesOf entries (entries .code e)) (entriesBytes es), length-entry e, length-entries es)
@@ -112,39 +116,50 @@ one-more (d ∷ es) e =
 pub record Writing (es : List Entry) (i : ℕ) (out : List ℕ) : Type 0 where
   pub within : i ≤ 64
   pub places : length es ≡ 64
-  pub size : length out ≡ 1536
-  pub front : take (24 * i) out ≡ entriesBytes (take i es)
+  pub size : length out ≡ placesSize
+  pub front : take (entrySize * i) out ≡ entriesBytes (take i es)
 
-pub write-start : (es : List Entry) (out : List ℕ) → length es ≡ 64 → length out ≡ 1536 → Writing es 0 out
+pub write-start : (es : List Entry) (out : List ℕ) → length es ≡ 64 → length out ≡ placesSize → Writing es 0 out
 unfolding entriesBytes
 write-start es out h k = record { within = omega arith; places = h; size = k; front = refl }
 
 module _ (es : List Entry) (i : ℕ) (out : List ℕ) (v : Writing es i out) where
   pub write-done : 64 ≤ i → out ≡ entriesBytes es
   write-done h =
-      sym (take-all (24 * i) out (omega (arith, v .size)))
+      sym (take-all (entrySize * i) out (omega (arith, v .size)))
       ∙ v .front
       ∙ ap entriesBytes (take-all i es (omega (arith, v .places)))
 
-  pub write-past : i < 64 → (k : ℕ) → k ≡ 24 → (new : List ℕ) → new ≡ bytesOf entries (entries .code (getD es i zeroEntry))
-      → Writing es (i + 1) (take (24 * i) out ++ (new ++ drop k (drop (24 * i) out)))
+  pub write-past : i < 64 → (k : ℕ) → k ≡ entrySize → (new : List ℕ) → new ≡ bytesOf entries (entries .code (getD es i zeroEntry))
+      → Writing es (i + 1) (take (entrySize * i) out ++ (new ++ drop k (drop (entrySize * i) out)))
   write-past inside k is new h = record {
     within = omega arith;
     places = v .places;
-    size = omega (arith, length-append (take (24 * i) out) (new ++ rest), length-append new rest, before, long, length-drop k (drop (24 * i) out), length-drop (24 * i) out, v .size, is);
+    size =
+        omega (
+          arith,
+          length-append (take (entrySize * i) out) (new ++ rest),
+          length-append new rest,
+          before,
+          long,
+          length-drop k (drop (entrySize * i) out),
+          length-drop (entrySize * i) out,
+          v .size,
+          is,
+        );
     front =
-        ap (take (24 * (i + 1))) (sym (append-assoc (take (24 * i) out) new rest))
-        ∙ take-at (take (24 * i) out ++ new) rest (24 * (i + 1)) (omega (arith, length-append (take (24 * i) out) new, before, long))
+        ap (take (entrySize * (i + 1))) (sym (append-assoc (take (entrySize * i) out) new rest))
+        ∙ take-at (take (entrySize * i) out ++ new) rest (entrySize * (i + 1)) (omega (arith, length-append (take (entrySize * i) out) new, before, long))
         ∙ ap₂ _++_ (v .front) h
         ∙ sym (one-more (take i es) (getD es i zeroEntry))
         ∙ ap entriesBytes (sym (take-suc es i zeroEntry (omega (arith, v .places))) ∙ ap (λ (n : ℕ). take n es) (sym (add-one i)));
   }
     where
       rest : List ℕ
-      rest = drop k (drop (24 * i) out)
+      rest = drop k (drop (entrySize * i) out)
 
-      before : length (take (24 * i) out) ≡ 24 * i
-      before = length-take-le (24 * i) out (omega (arith, v .size))
+      before : length (take (entrySize * i) out) ≡ entrySize * i
+      before = length-take-le (entrySize * i) out (omega (arith, v .size))
 
-      long : length new ≡ 24
+      long : length new ≡ entrySize
       long = ap length h ∙ length-entry (getD es i zeroEntry)

@@ -20,9 +20,10 @@ use Rattle.packing.proofs.CodecLaws.{onlyIf-some, unpack-pack, pack-unpack, pac
 use Rattle.book.specs.declared.Entry.{Entry}
 use Rattle.series.specs.declared.Series.{Series}
 use Rattle.series_buffer.specs.declared.Header.{Header}
-use Rattle.series_buffer.specs.Header.{headers}
-use Rattle.series_buffer.specs.Entry.{entries}
-use Rattle.series_buffer.specs.State.{headerOf, seriesOf, joined, made, entriesIn, entriesBytes, unpackSeries, seriesBytes, packsSeries, packSeries}
+use Rattle.series_buffer.specs.Header.{headerSize, headers}
+use Rattle.series_buffer.specs.Entry.{entrySize, entries}
+use Rattle.series_buffer.specs.State.{stateSize, headerOf, seriesOf, joined, made, entriesIn}
+use Rattle.series_buffer.specs.State.{entriesBytes, unpackSeries, seriesBytes, packsSeries, packSeries}
 use Rattle.series_buffer.proofs.HeaderLaws as of-header
 use Rattle.series_buffer.proofs.EntryLaws as of-entry
 use Rattle.series_buffer.proofs.PlacesLaws.{length-entry, length-entries}
@@ -61,19 +62,21 @@ pub record Placed (n : ℕ) (s : List ℕ) (es : List Entry) : Type 0 where
   pub pack : all (packs entries) es ≡ true
   pub bytes : entriesBytes es ≡ s
 
-entries-pack : (n : ℕ) (s : List ℕ) (es : List Entry) → Bytes s → length s ≡ 24 * n → entriesIn n s ≡ some es → Placed n s es
+entries-pack : (n : ℕ) (s : List ℕ) (es : List Entry) → Bytes s → length s ≡ entrySize * n → entriesIn n s ≡ some es → Placed n s es
 unfolding entriesIn entriesBytes all
 entries-pack zero s es b l h =
     let q : _≡_ {A = List Entry} [] es = cc in
     record { number = ap length (sym q); pack = ap (all (packs entries)) (sym q); bytes = ap entriesBytes (sym q) ∙ sym (length-none s (omega (arith, l))) }
 entries-pack (suc n) s es b l h =
-    let j = joined-some (unpackOf entries (take 24 s)) (entriesIn n (drop 24 s)) es h in
-    let p = packed-bytes entries (j .one) (take 24 s) (unpack-pack entries of-entry.lawful (take 24 s) (j .one) (bytes-take 24 s b) (j .is-one)) in
-    let more = entries-pack n (drop 24 s) (j .more) (bytes-drop 24 s b) (omega (arith, length-drop 24 s, l)) (j .is-more) in
+    let j = joined-some (unpackOf entries (take entrySize s)) (entriesIn n (drop entrySize s)) es h in
+    let p =
+    packed-bytes entries (j .one) (take entrySize s)
+    (unpack-pack entries of-entry.lawful (take entrySize s) (j .one) (bytes-take entrySize s b) (j .is-one)) in
+    let more = entries-pack n (drop entrySize s) (j .more) (bytes-drop entrySize s b) (omega (arith, length-drop entrySize s, l)) (j .is-more) in
     record {
       number = ap length (j .whole) ∙ omega (arith, more .number);
       pack = ap (all (packs entries)) (j .whole) ∙ ap₂ _&&_ (p .0) (more .pack);
-      bytes = ap entriesBytes (j .whole) ∙ ap₂ _++_ (sym (p .1)) (more .bytes) ∙ take-append-drop 24 s;
+      bytes = ap entriesBytes (j .whole) ∙ ap₂ _++_ (sym (p .1)) (more .bytes) ∙ take-append-drop entrySize s;
     }
 
 entries-unpack : (es : List Entry) → all (packs entries) es ≡ true → entriesIn (length es) (entriesBytes es) ≡ some es
@@ -82,9 +85,10 @@ entries-unpack [] h = refl
 entries-unpack (e ∷ es) h =
     let b : List ℕ = bytesOf entries (entries .code e) in
     ap₂ joined
-    (ap (unpackOf entries) (take-at b (entriesBytes es) 24 (length-entry e))
+    (ap (unpackOf entries) (take-at b (entriesBytes es) entrySize (length-entry e))
     ∙ pack-unpack entries of-entry.lawful e b (pack-packs entries e (and-left (packs entries e) (all (packs entries) es) h)))
-    (ap (entriesIn (length es)) (drop-at b (entriesBytes es) 24 (length-entry e)) ∙ entries-unpack es (and-right (packs entries e) (all (packs entries) es) h))
+    (ap (entriesIn (length es)) (drop-at b (entriesBytes es) entrySize (length-entry e))
+    ∙ entries-unpack es (and-right (packs entries e) (all (packs entries) es) h))
 
 -- ---- series ----
 
@@ -92,15 +96,17 @@ entries-unpack (e ∷ es) h =
 pub series-pack : (s : List ℕ) (x : Series) → Bytes s → unpackSeries s ≡ some x → packSeries x ≡ some s
 unfolding unpackSeries packSeries seriesBytes
 series-pack s x b h =
-    let p = onlyIf-some (eqb (length s) 1564) (made (unpackOf headers (take 28 s)) (entriesIn 64 (drop 28 s))) x h in
-    let long : length s ≡ 1564 = eqb-true (length s) 1564 (p .0) in
-    let m = made-some (unpackOf headers (take 28 s)) (entriesIn 64 (drop 28 s)) x (p .1) in
-    let f = packed-bytes headers (m .header) (take 28 s) (unpack-pack headers of-header.lawful (take 28 s) (m .header) (bytes-take 28 s b) (m .is-header)) in
-    let r = entries-pack 64 (drop 28 s) (m .places) (bytes-drop 28 s b) (omega (arith, length-drop 28 s, long)) (m .is-places) in
+    let p = onlyIf-some (eqb (length s) stateSize) (made (unpackOf headers (take headerSize s)) (entriesIn 64 (drop headerSize s))) x h in
+    let long : length s ≡ stateSize = eqb-true (length s) stateSize (p .0) in
+    let m = made-some (unpackOf headers (take headerSize s)) (entriesIn 64 (drop headerSize s)) x (p .1) in
+    let f =
+    packed-bytes headers (m .header) (take headerSize s)
+    (unpack-pack headers of-header.lawful (take headerSize s) (m .header) (bytes-take headerSize s b) (m .is-header)) in
+    let r = entries-pack 64 (drop headerSize s) (m .places) (bytes-drop headerSize s b) (omega (arith, length-drop headerSize s, long)) (m .is-places) in
     ap packSeries (m .whole)
     ∙ ap₂ (λ (c : Bool) (l : List ℕ). onlyIf c (some l))
     (fit-parts (seriesOf (m .header) (m .places)) (f .0) (r .number) (r .pack))
-    (ap₂ _++_ (sym (f .1)) (r .bytes) ∙ take-append-drop 28 s)
+    (ap₂ _++_ (sym (f .1)) (r .bytes) ∙ take-append-drop headerSize s)
 
 -- THEOREM. What a series packs to unpacks to that series
 pub pack-series : (x : Series) (s : List ℕ) → packSeries x ≡ some s → unpackSeries s ≡ some x
@@ -111,18 +117,20 @@ pack-series x s h =
     let is : seriesBytes x ≡ s = cc in
     let first = and-left (packs headers (headerOf x)) _ (p .0) in
     let rest = and-right (packs headers (headerOf x)) _ (p .0) in
-    let number : length (x .book .entries) ≡ 64 = eqb-true (length (x .book .entries)) 64 (and-left (eqb (length (x .book .entries)) 64) (all (packs entries) (x .book .entries)) rest) in
+    let number : length (x .book .entries) ≡ 64 =
+    eqb-true (length (x .book .entries)) 64 (and-left (eqb (length (x .book .entries)) 64) (all (packs entries) (x .book .entries)) rest) in
     let fit : all (packs entries) (x .book .entries) ≡ true = and-right (eqb (length (x .book .entries)) 64) (all (packs entries) (x .book .entries)) rest in
     let b : List ℕ = bytesOf headers (headers .code (headerOf x)) in
-    let size : length b ≡ 28 = length-bytes headers of-header.lawful (headers .code (headerOf x)) in
-    let long : length s ≡ 1564 = sym (ap length is) ∙ omega (arith, length-append b (entriesBytes (x .book .entries)), size, length-entries (x .book .entries), number) in
-    ap₂ (λ (c : Bool) (u : Option Series). onlyIf c u) (eq-eqb (length s) 1564 long)
+    let size : length b ≡ headerSize = length-bytes headers of-header.lawful (headers .code (headerOf x)) in
+    let long : length s ≡ stateSize =
+    sym (ap length is) ∙ omega (arith, length-append b (entriesBytes (x .book .entries)), size, length-entries (x .book .entries), number) in
+    ap₂ (λ (c : Bool) (u : Option Series). onlyIf c u) (eq-eqb (length s) stateSize long)
     (ap₂ made
-    (ap (λ (l : List ℕ). unpackOf headers (take 28 l)) (sym is)
-    ∙ ap (unpackOf headers) (take-at b (entriesBytes (x .book .entries)) 28 size)
+    (ap (λ (l : List ℕ). unpackOf headers (take headerSize l)) (sym is)
+    ∙ ap (unpackOf headers) (take-at b (entriesBytes (x .book .entries)) headerSize size)
     ∙ pack-unpack headers of-header.lawful (headerOf x) b (pack-packs headers (headerOf x) first))
-    (ap (λ (l : List ℕ). entriesIn 64 (drop 28 l)) (sym is)
-    ∙ ap (entriesIn 64) (drop-at b (entriesBytes (x .book .entries)) 28 size)
+    (ap (λ (l : List ℕ). entriesIn 64 (drop headerSize l)) (sym is)
+    ∙ ap (entriesIn 64) (drop-at b (entriesBytes (x .book .entries)) headerSize size)
     ∙ ap (λ (n : ℕ). entriesIn n (entriesBytes (x .book .entries))) (sym number)
     ∙ entries-unpack (x .book .entries) fit))
 

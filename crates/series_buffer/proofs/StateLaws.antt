@@ -16,34 +16,35 @@ use Rattle.packing.proofs.CodecLaws.{packs-fit, length-bytes}
 use Rattle.book.specs.declared.Entry.{Entry}
 use Rattle.series.specs.declared.Series.{Series}
 use Rattle.series_buffer.specs.declared.Header.{Header}
-use Rattle.series_buffer.specs.Header.{headers}
+use Rattle.series_buffer.specs.Header.{headerSize, headers}
 use Rattle.series_buffer.specs.Entry.{entries}
-use Rattle.series_buffer.specs.State.{headerOf, seriesOf, made, entriesIn, unpackSeries, packsSeries, entriesBytes, seriesBytes, isStored, bufferAfter}
+use Rattle.series_buffer.specs.State.{placesSize, stateSize, headerOf, seriesOf, made, entriesIn, unpackSeries}
+use Rattle.series_buffer.specs.State.{packsSeries, entriesBytes, seriesBytes, isStored, bufferAfter}
 use Rattle.series_buffer.proofs.HeaderLaws.{lawful}
 use Rattle.series_buffer.proofs.PlacesLaws.{length-entries}
 
 module _ (s : List ℕ) where
-  pub other-length : (length s ≡ 1564 → ⊥) → unpackSeries s ≡ none
+  pub other-length : (length s ≡ stateSize → ⊥) → unpackSeries s ≡ none
   unfolding unpackSeries
-  other-length h = ap (λ (b : Bool). onlyIf b (made (unpackOf headers (take 28 s)) (entriesIn 64 (drop 28 s)))) (ne-eqb (length s) 1564 h)
+  other-length h = ap (λ (b : Bool). onlyIf b (made (unpackOf headers (take headerSize s)) (entriesIn 64 (drop headerSize s)))) (ne-eqb (length s) stateSize h)
 
-  module _ (long : length s ≡ 1564) where
-    in-parts : unpackSeries s ≡ made (unpackOf headers (take 28 s)) (entriesIn 64 (drop 28 s))
+  module _ (long : length s ≡ stateSize) where
+    in-parts : unpackSeries s ≡ made (unpackOf headers (take headerSize s)) (entriesIn 64 (drop headerSize s))
     unfolding unpackSeries
-    in-parts = ap (λ (b : Bool). onlyIf b (made (unpackOf headers (take 28 s)) (entriesIn 64 (drop 28 s)))) (eq-eqb (length s) 1564 long)
+    in-parts = ap (λ (b : Bool). onlyIf b (made (unpackOf headers (take headerSize s)) (entriesIn 64 (drop headerSize s)))) (eq-eqb (length s) stateSize long)
 
-    module _ (a : Bool) (h : Header) (header : unpackOf headers (take 28 s) ≡ onlyIf a (some h)) where
+    module _ (a : Bool) (h : Header) (header : unpackOf headers (take headerSize s) ≡ onlyIf a (some h)) where
       pub no-header : a ≡ false → unpackSeries s ≡ none
-      no-header q = in-parts ∙ ap (λ (u : Option Header). made u (entriesIn 64 (drop 28 s))) (header ∙ ap (λ (x : Bool). onlyIf x (some h)) q)
+      no-header q = in-parts ∙ ap (λ (u : Option Header). made u (entriesIn 64 (drop headerSize s))) (header ∙ ap (λ (x : Bool). onlyIf x (some h)) q)
 
-      module _ (there : a ≡ true) (part : List ℕ) (rest : part ≡ take (length s - 28) (drop 28 s)) (b : Bool) (es : List Entry)
+      module _ (there : a ≡ true) (part : List ℕ) (rest : part ≡ take (length s - headerSize) (drop headerSize s)) (b : Bool) (es : List Entry)
           (read : entriesIn 64 part ≡ onlyIf b (some es)) where
         both : unpackSeries s ≡ made (some h) (onlyIf b (some es))
         both =
             in-parts
             ∙ ap₂ made
             (header ∙ ap (λ (x : Bool). onlyIf x (some h)) there)
-            (ap (entriesIn 64) (sym (rest ∙ take-all (length s - 28) (drop 28 s) (omega (arith, length-drop 28 s)))) ∙ read)
+            (ap (entriesIn 64) (sym (rest ∙ take-all (length s - headerSize) (drop headerSize s) (omega (arith, length-drop headerSize s)))) ∙ read)
 
         pub no-entries : b ≡ false → unpackSeries s ≡ none
         no-entries q = both ∙ ap (λ (x : Bool). made (some h) (onlyIf x (some es))) q
@@ -51,10 +52,10 @@ module _ (s : List ℕ) where
         pub all-there : b ≡ true → unpackSeries s ≡ some (seriesOf h es)
         all-there q = both ∙ ap (λ (x : Bool). made (some h) (onlyIf x (some es))) q
 
-    pub rest-size : length (take (length s - 28) (drop 28 s)) ≡ 1536
+    pub rest-size : length (take (length s - headerSize) (drop headerSize s)) ≡ placesSize
     rest-size =
-        ap length (take-all (length s - 28) (drop 28 s) (omega (arith, length-drop 28 s)))
-        ∙ omega (arith, length-drop 28 s, long)
+        ap length (take-all (length s - headerSize) (drop headerSize s) (omega (arith, length-drop headerSize s)))
+        ∙ omega (arith, length-drop headerSize s, long)
 
 -- ---- what is stored ----
 
@@ -62,18 +63,18 @@ module _ (out : List ℕ) (s : Series) where
   stored-as : (b : Bool) → isStored out s ≡ b → (b ≡ isStored out s) × (cond b (seriesBytes s) out ≡ bufferAfter out s)
   stored-as b h = (sym h, ap (λ (c : Bool). cond c (seriesBytes s) out) (sym h))
 
-  pub kept-length : (length out ≡ 1564 → ⊥) → (false ≡ isStored out s) × (out ≡ bufferAfter out s)
+  pub kept-length : (length out ≡ stateSize → ⊥) → (false ≡ isStored out s) × (out ≡ bufferAfter out s)
   unfolding isStored
-  kept-length h = stored-as false (ap (λ (b : Bool). b && packsSeries s) (ne-eqb (length out) 1564 h))
+  kept-length h = stored-as false (ap (λ (b : Bool). b && packsSeries s) (ne-eqb (length out) stateSize h))
 
   pub kept-unfit : packsSeries s ≡ false → (false ≡ isStored out s) × (out ≡ bufferAfter out s)
   unfolding isStored
-  kept-unfit h = stored-as false (ap (λ (b : Bool). eqb (length out) 1564 && b) h ∙ and-false (eqb (length out) 1564))
+  kept-unfit h = stored-as false (ap (λ (b : Bool). eqb (length out) stateSize && b) h ∙ and-false (eqb (length out) stateSize))
 
-  pub put-in : length out ≡ 1564 → packsSeries s ≡ true → (after : List ℕ) → after ≡ seriesBytes s → (true ≡ isStored out s) × (after ≡ bufferAfter out s)
+  pub put-in : length out ≡ stateSize → packsSeries s ≡ true → (after : List ℕ) → after ≡ seriesBytes s → (true ≡ isStored out s) × (after ≡ bufferAfter out s)
   unfolding isStored
   put-in h k after q =
-      let t = stored-as true (ap₂ _&&_ (eq-eqb (length out) 1564 h) k) in
+      let t = stored-as true (ap₂ _&&_ (eq-eqb (length out) stateSize h) k) in
       (t .0, q ∙ t .1)
 
 -- ---- which series pack ----
@@ -104,26 +105,38 @@ module _ (s : Series) where
 
 -- ---- header and entries written one after the other ----
 
-module _ (out new : List ℕ) (h : Header) (long : length out ≡ 1564) (first : new ≡ bytesOf headers (headers .code h)) where
-  size : length new ≡ 28
+module _ (out new : List ℕ) (h : Header) (long : length out ≡ stateSize) (first : new ≡ bytesOf headers (headers .code h)) where
+  size : length new ≡ headerSize
   size = ap length first ∙ length-bytes headers lawful (headers .code h)
 
-  with-header : length (new ++ drop 28 out) ≡ 1564
-  with-header = omega (arith, length-append new (drop 28 out), size, length-drop 28 out, long)
+  with-header : length (new ++ drop headerSize out) ≡ stateSize
+  with-header = omega (arith, length-append new (drop headerSize out), size, length-drop headerSize out, long)
 
-  pub rest-left : length (take (length (new ++ drop 28 out) - 28) (drop 28 (new ++ drop 28 out))) ≡ 1536
-  rest-left = rest-size (new ++ drop 28 out) with-header
+  pub rest-left : length (take (length (new ++ drop headerSize out) - headerSize) (drop headerSize (new ++ drop headerSize out))) ≡ placesSize
+  rest-left = rest-size (new ++ drop headerSize out) with-header
 
   module _ (rest : List ℕ) (es : List Entry) (second : rest ≡ entriesBytes es) where
-    pub all-written : take 28 (new ++ drop 28 out) ++ (rest ++ drop (length (new ++ drop 28 out) - 28) (drop 28 (new ++ drop 28 out))) ≡ seriesBytes (seriesOf h es)
+    pub all-written : take headerSize (new ++ drop headerSize out)
+        ++ (rest ++ drop (length (new ++ drop headerSize out) - headerSize) (drop headerSize (new ++ drop headerSize out))) ≡ seriesBytes (seriesOf h es)
     unfolding seriesBytes
     all-written =
-        let nothing-left : length (drop 28 (new ++ drop 28 out)) ≤ length (new ++ drop 28 out) - 28 = omega (arith, length-drop 28 (new ++ drop 28 out)) in
-        ap₂ _++_ (take-at new (drop 28 out) 28 size ∙ first)
-        (ap (λ (l : List ℕ). rest ++ l) (drop-of-length-le (drop 28 (new ++ drop 28 out)) nothing-left) ∙ append-nil rest ∙ second)
+        let nothing-left : length (drop headerSize (new ++ drop headerSize out)) ≤ length (new ++ drop headerSize out) - headerSize =
+        omega (arith, length-drop headerSize (new ++ drop headerSize out)) in
+        ap₂ _++_ (take-at new (drop headerSize out) headerSize size ∙ first)
+        (ap (λ (l : List ℕ). rest ++ l) (drop-of-length-le (drop headerSize (new ++ drop headerSize out)) nothing-left) ∙ append-nil rest ∙ second)
 
-    pub all-sized : length es ≡ 64 → length (take 28 (new ++ drop 28 out) ++ (rest ++ drop (length (new ++ drop 28 out) - 28) (drop 28 (new ++ drop 28 out)))) ≡ length out
+    pub all-sized : length es ≡ 64
+        → length
+        (take headerSize (new ++ drop headerSize out)
+        ++ (rest ++ drop (length (new ++ drop headerSize out) - headerSize) (drop headerSize (new ++ drop headerSize out)))) ≡ length out
     unfolding seriesBytes
     all-sized l =
         ap length all-written
-        ∙ omega (arith, length-append (bytesOf headers (headers .code h)) (entriesBytes es), length-bytes headers lawful (headers .code h), length-entries es, l, long)
+        ∙ omega (
+          arith,
+          length-append (bytesOf headers (headers .code h)) (entriesBytes es),
+          length-bytes headers lawful (headers .code h),
+          length-entries es,
+          l,
+          long,
+        )

@@ -11,6 +11,10 @@ use Rattle.book.specs.declared.Entry.{Entry}
 use Rattle.book.specs.declared.Pricing.{Pricing}
 use Rattle.book.specs.declared.Pricing.the-variants.{Fixed, Dark, Sliding}
 
+-- how many bytes one has
+abbrev pub entrySize : ℕ
+entrySize = 24
+
 -- number, limit, quantity, working price, display 4 bytes each; party, kind, side, pricing 1 each
 abbrev pub widths : List ℕ
 widths = 32 ∷ 32 ∷ 32 ∷ 32 ∷ 32 ∷ 8 ∷ 8 ∷ 8 ∷ 8 ∷ []
@@ -57,4 +61,4 @@ entryBy l = record {
 
 -- whether the values are legal is not asked here: that is soundness
 abbrev pub entries : Codec Entry
-entries = record { widths = widths; size = 24; code = codeOf; claimed = λ l. some (entryBy l); admitted = λ _. true }
+entries = record { widths = widths; size = entrySize; code = codeOf; claimed = λ l. some (entryBy l); admitted = λ _. true }

@@ -9,6 +9,10 @@ use lib.ListN.{getD, drop, replicate}
 use Rattle.packing.specs.Codec.{Codec, bit}
 use Rattle.series_buffer.specs.declared.Header.{Header}
 
+-- how many bytes the header has
+abbrev pub headerSize : ℕ
+headerSize = 28
+
 -- M, K 1 byte each, strike 4, phase 1, away bid, away offer, underlying, number given last 4 each, put, exempt, count 1 each; then a bit
 -- for each maker, maker 1 first
 abbrev pub widths : List ℕ
@@ -53,4 +57,4 @@ headerBy l = record {
 
 -- whether the numbers are legal is not asked here: that is soundness
 abbrev pub headers : Codec Header
-headers = record { widths = widths; size = 28; code = codeOf; claimed = λ l. some (headerBy l); admitted = λ _. true }
+headers = record { widths = widths; size = headerSize; code = codeOf; claimed = λ l. some (headerBy l); admitted = λ _. true }

@@ -1,6 +1,6 @@
 -- A series in 1,564 bytes: 28 of its header, and 24 for each of the 64 places of its book.
 -- Assumes nothing.
-use Prim.Native.Nat.{ℕ, zero, suc}
+use Prim.Native.Nat.{ℕ, zero, suc, _+_, _*_}
 use mathlib.Core.Bool.{Bool, true, false, cond, _&&_}
 use mathlib.Core.List.{List, [], _∷_, _++_}
 use mathlib.Core.Option.{Option, none, some}
@@ -13,8 +13,15 @@ use Rattle.series.specs.declared.Series.{Series}
 use Rattle.series.specs.Series.{noSeries}
 use Rattle.series_buffer.specs.declared.Header.{Header}
 use Rattle.series_buffer.specs.declared.Unpacked.{Unpacked}
-use Rattle.series_buffer.specs.Header.{headers}
-use Rattle.series_buffer.specs.Entry.{entries}
+use Rattle.series_buffer.specs.Header.{headers, headerSize}
+use Rattle.series_buffer.specs.Entry.{entries, entrySize}
+
+-- how many bytes all places have, and the whole
+abbrev pub placesSize : ℕ
+placesSize = 64 * entrySize
+
+abbrev pub stateSize : ℕ
+stateSize = headerSize + placesSize
 
 -- what stands in the header, and a series of a header and its entries
 abbrev pub headerOf : Series → Header
@@ -33,7 +40,7 @@ joined (some e) (some es) = some (e ∷ es)
 
 unfoldable pub entriesIn : ℕ → List ℕ → Option (List Entry)
 entriesIn zero s = some []
-entriesIn (suc n) s = joined (unpackOf entries (take 24 s)) (entriesIn n (drop 24 s))
+entriesIn (suc n) s = joined (unpackOf entries (take entrySize s)) (entriesIn n (drop entrySize s))
 
 abbrev pub made : Option Header → Option (List Entry) → Option Series
 made none es = none
@@ -42,7 +49,7 @@ made (some h) (some es) = some (seriesOf h es)
 
 -- WHAT BYTES UNPACK TO: another length, or a header or an entry that unpacks to nothing: no series
 unfoldable pub unpackSeries : List ℕ → Option Series
-unpackSeries s = onlyIf (eqb (length s) 1564) (made (unpackOf headers (take 28 s)) (entriesIn 64 (drop 28 s)))
+unpackSeries s = onlyIf (eqb (length s) stateSize) (made (unpackOf headers (take headerSize s)) (entriesIn 64 (drop headerSize s)))
 
 -- ---- into bytes ----
 
@@ -70,7 +77,7 @@ unpacked (some s) = record { ok = true; series = s }
 
 -- a series is put into a buffer of the right length if it packs, and otherwise the buffer stays as it was
 unfoldable pub isStored : List ℕ → Series → Bool
-isStored out s = eqb (length out) 1564 && packsSeries s
+isStored out s = eqb (length out) stateSize && packsSeries s
 
 abbrev pub bufferAfter : List ℕ → Series → List ℕ
 bufferAfter out s = cond (isStored out s) (seriesBytes s) out

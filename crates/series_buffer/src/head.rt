@@ -16,7 +16,7 @@ pub struct Found {
 }
 
 // How many bytes it has.
-const SIZE: usize = 28;
+pub const SIZE: usize = 28;
 
 // The widths of the fields, in bits: M, K, strike, phase, away bid, away offer, underlying, given, put, exempt, count, then 16 makers.
 const WIDTHS: [u8; 27] = [

@@ -9,7 +9,7 @@ ghost use lib.ListN.{length, take, getD};
 ghost use Rattle.lists.specs.Tests.{all};
 ghost use Rattle.packing.specs.Codec.{onlyIf, bytesOf, packs, unpackOf};
 ghost use Rattle.series_buffer.specs.Entry.{entries, codeOf, pricingNumber, ownDisplay, pricingBy, entryBy};
-ghost use Rattle.series_buffer.specs.State.{entriesIn, entriesBytes};
+ghost use Rattle.series_buffer.specs.State.{placesSize, entriesIn, entriesBytes};
 
 // Whether there is an entry, and which.
 pub struct Found {
@@ -23,8 +23,10 @@ pub struct All {
     pub entries: [Entry; 64],
 }
 
-// How many bytes one has.
-const SIZE: usize = 24;
+// How many bytes one has, and all of them.
+pub const SIZE: usize = 24;
+
+pub const ALL: usize = 64 * SIZE;
 
 // The widths of the fields, in bits: number, limit, quantity, working price, display, party, kind, side, pricing.
 const WIDTHS: [u8; 9] = [32, 32, 32, 32, 32, 8, 8, 8, 8];
@@ -113,7 +115,7 @@ fn unpack(s: &[u8]) -> Found
 
 // The 64 places, if each of them is an entry's.
 pub fn unpack_all(s: &[u8]) -> All
-    requires { ⌜ length (now s) ≡ 1536 ⌝ }
+    requires { ⌜ length (now s) ≡ placesSize ⌝ }
     ensures { λ r. ⌜ entriesIn 64 (now (s .entry)) ≡ onlyIf (r .ok) (some (r .entries)) ⌝ }
 {
     let unused = zero_entry();
@@ -166,7 +168,7 @@ fn write(out: &mut [u8], e: Entry)
 
 // Writes the 64 places.
 pub fn write_all(out: &mut [u8], places: [Entry; 64])
-    requires { ⌜ length (now out) ≡ 1536 ⌝ }
+    requires { ⌜ length (now out) ≡ placesSize ⌝ }
     ensures { λ _. ⌜ now (out .exit) ≡ entriesBytes places ⌝ }
 {
     let mut i = 0usize;

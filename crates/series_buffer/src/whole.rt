@@ -12,10 +12,10 @@ ghost use mathlib.Core.Bool.{false};
 ghost use Prim.Native.Nat.{_<_};
 ghost use lib.ListN.{length};
 ghost use Rattle.series.specs.Series.{noSeries};
-ghost use Rattle.series_buffer.specs.State.{headerOf, seriesOf, unpackSeries, seriesBytes, unpacked, isStored, bufferAfter};
+ghost use Rattle.series_buffer.specs.State.{stateSize, headerOf, seriesOf, unpackSeries, seriesBytes, unpacked, isStored, bufferAfter};
 
 // How many bytes a series has.
-pub const SIZE: usize = 1564;
+pub const SIZE: usize = head::SIZE + places::ALL;
 
 fn nothing() -> Unpacked
     ensures { λ r. ⌜ r ≡ record { ok = false; series = noSeries } ⌝ }
@@ -49,7 +49,7 @@ pub fn unpack_series(bytes: &[u8]) -> Unpacked
     if !first.ok {
         return nothing();
     }
-    let rest = places::unpack_all(&bytes[28..]);
+    let rest = places::unpack_all(&bytes[head::SIZE..]);
     if !rest.ok {
         return nothing();
     }
@@ -76,11 +76,11 @@ fn header_of(s: Series) -> Header
 
 // Writes the 1,564 bytes of a series.
 fn write(out: &mut [u8], h: Header, entries: [Entry; 64])
-    requires { ⌜ length (now out) ≡ 1564 ⌝ }
+    requires { ⌜ length (now out) ≡ stateSize ⌝ }
     ensures { λ _. ⌜ now (out .exit) ≡ seriesBytes (seriesOf h entries) ⌝ }
 {
-    head::write(&mut out[..28], h);
-    places::write_all(&mut out[28..], entries);
+    head::write(&mut out[..head::SIZE], h);
+    places::write_all(&mut out[head::SIZE..], entries);
 }
 
 // Puts a series into a buffer. Answers false, and leaves the buffer as it was, where that is of another length or a number does not fit.

@@ -2,6 +2,7 @@ use Rattle.series_buffer.proofs.PlacesLaws.{Writing, part-written, writ
 use native.Mathlib.Omega.{arith}
 use mathlib.Core.Path.{sym, _∙_}
 use Prim.Native.Nat.{_+_, _-_, _*_}
+use Rattle.series_buffer.specs.Entry.{entrySize}
 use borrow.Author.Needs.{needs}
 use Rattle.series_buffer.proofs.places.write_all.Statement.{statement}
 use Rattle.series_buffer.proofs.places.write_all.Tie as tie
@@ -13,7 +14,7 @@ abbrev μ-loop : tie.MeasureT-loop
 μ-loop out₀ places i₀ out i = 64 - i
 
 loop-holds : tie.Need-loop-holds Inv-loop μ-loop
-loop-holds c = write-start _ _ (search needs) (c .before .pre)
+loop-holds c = let start : tie.Start Inv-loop μ-loop = search in write-start _ _ (search needs) (start .pre)
 
 mul-at : tie.Need-mul-at Inv-loop μ-loop
 mul-at c = search needs
@@ -28,7 +29,9 @@ part-write-start : tie.Need-part-write-start Inv-loop μ-loop
 part-write-start c = search needs
 
 part-write-end : tie.Need-part-write-end Inv-loop μ-loop
-part-write-end c = omega (arith, c .before .loop .inv .size, c .loop-test .taken)
+part-write-end c =
+    let at-loop : tie.At-loop Inv-loop μ-loop = search in
+    omega (arith, at-loop .loop .inv .size, c .loop-test .taken)
 
 mul-write : tie.Need-mul-write Inv-loop μ-loop
 mul-write c = search needs
@@ -37,7 +40,11 @@ array-copy-out-write : tie.Need-array-copy-out-write Inv-loop μ-loop
 array-copy-out-write c = search needs
 
 write-requires : tie.Need-write-requires Inv-loop μ-loop
-write-requires c κs = part-written (c .before .before .before .loop .out) (c .before .before .before .loop .i) (c .before .before .before .loop .inv .size) (c .before .before .loop-test .taken)
+write-requires c κs =
+    let at-loop-test : tie.In-loop Inv-loop μ-loop = search in
+    let at-loop : tie.At-loop Inv-loop μ-loop = search in
+    part-written (at-loop .loop .out) (at-loop .loop .i) (at-loop .loop .inv .size)
+    (at-loop-test .loop-test .taken)
 
 add-i : tie.Need-add-i Inv-loop μ-loop
 add-i c = search needs
@@ -46,13 +53,28 @@ loop-less : tie.Need-loop-less Inv-loop μ-loop
 loop-less c = search needs
 
 loop-again : tie.Need-loop-again Inv-loop μ-loop
-loop-again c = write-past (c .before .before .before .before .before .before .before .before .args .t2) (c .before .before .before .before .before .before .loop .i) (c .before .before .before .before .before .before .loop .out) (c .before .before .before .before .before .before .loop .inv) (c .before .before .before .before .before .loop-test .taken) (24 * c .before .before .before .before .before .before .loop .i + 24 - 24 * c .before .before .before .before .before .before .loop .i) (omega arith) _ (c .before .before .write .ensures)
+loop-again c =
+    let at-write : tie.After-write Inv-loop μ-loop = search in
+    let at-loop-test : tie.In-loop Inv-loop μ-loop = search in
+    let at-loop : tie.At-loop Inv-loop μ-loop = search in
+    let start : tie.Start Inv-loop μ-loop = search in
+    write-past (start .args .t2) (at-loop .loop .i)
+    (at-loop .loop .out) (at-loop .loop .inv)
+    (at-loop-test .loop-test .taken)
+    (entrySize * at-loop .loop .i + entrySize - entrySize
+    * at-loop .loop .i) (omega arith) _ (at-write .write .ensures)
 
 same-length : tie.Need-same-length Inv-loop μ-loop
-same-length c = c .before .loop .inv .size ∙ sym (c .before .before .before .pre)
+same-length c =
+    let at-loop : tie.At-loop Inv-loop μ-loop = search in
+    let start : tie.Start Inv-loop μ-loop = search in
+    at-loop .loop .inv .size ∙ sym (start .pre)
 
 returns : tie.Need-returns Inv-loop μ-loop
-returns c = write-done (c .before .before .before .args .t2) (c .before .loop .i) (c .before .loop .out) (c .before .loop .inv) (c .loop-test .left)
+returns c =
+    let at-loop : tie.At-loop Inv-loop μ-loop = search in
+    let start : tie.Start Inv-loop μ-loop = search in
+    write-done (start .args .t2) (at-loop .loop .i) (at-loop .loop .out) (at-loop .loop .inv) (c .loop-test .left)
 
 pub write-all-spec : {M : Type 1} → statement M
 write-all-spec =
