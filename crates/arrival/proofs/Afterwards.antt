@@ -18,7 +18,7 @@ use Rattle.terms.specs.declared.Terms.{Terms}
 use Rattle.terms.specs.Terms.{marketOf}
 use Rattle.arrival.specs.Cancel.{cut, cutQuote, sweep}
 use Rattle.arrival.specs.Take.{Taking}
-use Rattle.arrival.specs.Post.{pricesOf, resting, stopFor}
+use Rattle.arrival.specs.Post.{pricesOf, asPosted, stopFor}
 use Rattle.arrival.specs.Arrive.{ofQuotes, bothQuotes, rejectedBy, replaced, finished, entered, rejection, arrivedAs, arrived}
 use Rattle.arrival.proofs.TakeLaws.{took-all}
 use Rattle.arrival.proofs.CutLaws.{quote-all}
@@ -28,7 +28,7 @@ use Rattle.arrival.proofs.ArriveTells.{tradesOf}
 -- ---- who rests after an arrival: what rested before, perhaps with fewer contracts, and the arriving entry ----
 
 module _ (t : Terms) (e : Entry) (l : List Entry) (P : Entry → Type 0) (lessens : (q : ℕ) (x : Entry) → q < x .quantity → P x → P (lessened q x))
-    (posts : (left : ℕ) (p : Prices) → P (resting e left p)) where
+    (posts : (left : ℕ) (p : Prices) → P (asPosted e left p)) where
   quotes-all : (why : ℕ) (side : Bool) (r : List Entry) → All P r → All P (ofQuotes e (cutQuote why (e .party) side) r .final)
   unfolding still
   quotes-all why side r a =
@@ -38,7 +38,7 @@ module _ (t : Terms) (e : Entry) (l : List Entry) (P : Entry → Type 0) (lessen
   finished-all : (left why : ℕ) (r : List Entry) → All P r → All P (finished t e left why r .final)
   unfolding still
   finished-all zero why r a = a
-  finished-all (suc left) zero r a = all-snoc P r (resting e (suc left) (pricesOf t e r)) a (posts (suc left) (pricesOf t e r))
+  finished-all (suc left) zero r a = all-snoc P r (asPosted e (suc left) (pricesOf t e r)) a (posts (suc left) (pricesOf t e r))
   finished-all (suc left) (suc why) r a = quotes-all 29 (not (e .sell)) r a
 
   entered-all : All P l → All P (entered t e l .final)
@@ -53,7 +53,9 @@ module _ (t : Terms) (e : Entry) (l : List Entry) (P : Entry → Type 0) (lessen
   rejected-all why a = pick (bothQuotes why)
     where
       pick : (b : Bool)
-          → All P ((cond b (λ (r : List Entry). andThen (cutQuote 30 (e .party) false r) (cutQuote 30 (e .party) true)) (cutQuote 30 (e .party) (e .sell))) l .final)
+          → All P
+          ((cond b (λ (r : List Entry). andThen (cutQuote 30 (e .party) false r) (cutQuote 30 (e .party) true)) (cutQuote 30 (e .party) (e .sell)))
+          l .final)
       pick true = quote-all 30 (e .party) true (cutQuote 30 (e .party) false l .final) P (quote-all 30 (e .party) false l P a)
       pick false = quote-all 30 (e .party) (e .sell) l P a
 

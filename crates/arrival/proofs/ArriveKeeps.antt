@@ -1,6 +1,6 @@
--- THE THEOREM OF ARRIVAL. What the handler has seen to before a quote or an order arrives (specs/Asks) is enough for all of the following: the entries that rest
--- afterwards are sound, of one more number given; they are at most 64; every report's fields fit; and there are at most three reports more than entries rested.
--- Assumes nothing.
+-- THE THEOREM OF ARRIVAL. What the handler has seen to before a quote or an order arrives (specs/Asks) is enough for all of the following: the entries that
+-- rest afterwards are sound, of one more number given; they are at most 64; every report's fields fit; and there are at most three reports more than entries
+-- rested. Assumes nothing.
 use Prim.Native.Nat.{ℕ, zero, suc, _+_, _≤_, _<_}
 use mathlib.Core.Path.{_≡_, refl, sym}
 use mathlib.Core.Bool.{Bool, true, false, cond, not}
@@ -18,7 +18,7 @@ use Rattle.packing.specs.declared.report.Report.{Report}
 use Rattle.packing.specs.Room.{AllPack}
 use Rattle.packing.proofs.ReportLaws.{rejected-packs, cancelled-packs}
 use Rattle.book.specs.declared.Entry.{Entry}
-use Rattle.book.specs.Entries.{quote, lastNumber}
+use Rattle.book.specs.Entries.{quote, lastNumber, withQuantity}
 use Rattle.book.specs.Change.{post}
 use Rattle.soundness_theory.specs.Sound.{soundEntries}
 use Rattle.soundness_theory.proofs.Facts.{EntryFacts, Clear, PairFacts, Sound}
@@ -31,8 +31,8 @@ use Rattle.terms.specs.declared.Terms.{Terms}
 use Rattle.terms.specs.Terms.{marketOf}
 use Rattle.arrival.specs.Cancel.{cutQuote}
 use Rattle.arrival.specs.Take.{Taking, took}
-use Rattle.arrival.specs.Post.{pricesOf, resting, stopFor}
-use Rattle.arrival.specs.Arrive.{reported, ofQuotes, bothQuotes, rejectedBy, replaced, remainder, cancelledRest, finished, entered, rejection, arrivedAs, arrived}
+use Rattle.arrival.specs.Post.{pricesOf, asPosted, stopFor}
+use Rattle.arrival.specs.Arrive.{reported, ofQuotes, bothQuotes, rejectedBy, replaced, cancelledRest, finished, entered, rejection, arrivedAs, arrived}
 use Rattle.arrival.specs.Asks.{Arriving}
 use Rattle.arrival.proofs.ReasonLaws.{stop-among, rejection-among}
 use Rattle.arrival.proofs.TakeLaws.{took-few, took-length, took-left, took-all, took-sound, took-packs, took-clears}
@@ -122,7 +122,7 @@ module _ (t : Terms) (e : Entry) (l : List Entry) (a : Arriving t e l) where
     numbered = sound-higher so (t .given + 1) (omega arith)
 
     -- its number is above all; and for a quote, none of its maker and side is left
-    new-facts : (left : ℕ) (p : Prices) → 1 ≤ left → left ≤ e .quantity → Fits (t .m) left e r p → EntryFacts (t .m) (t .given + 1) (resting e left p)
+    new-facts : (left : ℕ) (p : Prices) → 1 ≤ left → left ≤ e .quantity → Fits (t .m) left e r p → EntryFacts (t .m) (t .given + 1) (asPosted e left p)
     new-facts left p some most f = record {
       counted = omega (arith, a .number);
       given = omega (arith, a .number);
@@ -137,26 +137,27 @@ module _ (t : Terms) (e : Entry) (l : List Entry) (a : Arriving t e l) where
       prices = f .prices;
     }
 
-    new-pairs : (left : ℕ) (p : Prices) → Fits (t .m) left e r p → All (PairFacts (resting e left p)) r
-    new-pairs left p f = all-of (PairFacts (resting e left p)) r (λ i x at. record {
+    new-pairs : (left : ℕ) (p : Prices) → Fits (t .m) left e r p → All (PairFacts (asPosted e left p)) r
+    new-pairs left p f = all-of (PairFacts (asPosted e left p)) r (λ i x at. record {
       other = λ q. omega (arith, a .number, q, here-facts so i x at .given);
       one-quote = λ u v same side. clash (maker-of (e .party) (e .sell) x (record { quotes = v; party = sym same; side = sym side }))
           (all-at (OtherThan (e .party) (e .sell)) r i x (gone u) at);
-      apart = all-at (Clear (resting e left p)) r i x (f .clear) at;
+      apart = all-at (Clear (asPosted e left p)) r i x (f .clear) at;
     })
 
     post-stage : (left : ℕ) (p : Prices) → 1 ≤ left → left ≤ e .quantity → Fits (t .m) left e r p
-        → Stage (t .m) (t .given + 1) 64 2 (record { final = post (resting e left p) r; records = rested (resting e left p) ∷ [] })
+        → Stage (t .m) (t .given + 1) 64 2 (record { final = post (asPosted e left p) r; records = rested (asPosted e left p) ∷ [] })
     post-stage left p some most f = record {
-      sound = sound-post numbered (resting e left p) (new-facts left p some most f) (new-pairs left p f);
-      size = omega (arith, length-snoc r (resting e left p));
+      sound = sound-post numbered (asPosted e left p) (new-facts left p some most f) (new-pairs left p f);
+      size = omega (arith, length-snoc r (asPosted e left p));
       few = omega arith;
-      fit = (rested-fits (resting e left p) (omega (arith, a .fresh)) (new-facts left p some most f), tt);
+      fit = (rested-fits (asPosted e left p) (omega (arith, a .fresh)) (new-facts left p some most f), tt);
     }
 
     rest-stage : (why left : ℕ) → why ≤ 31 → left ≤ e .quantity → Stage (t .m) (t .given + 1) 64 2 (cancelledRest why e left r)
     rest-stage why left h most =
-        stage-then {top = t .given + 1} {most = 64} {n = 1} {x = reported (cancelled why (remainder e left)) r} (ofQuotes e (cutQuote 29 (e .party) (not (e .sell))))
+        stage-then {top = t .given + 1} {most = 64} {n = 1} {x = reported (cancelled why (withQuantity left e)) r}
+        (ofQuotes e (cutQuote 29 (e .party) (not (e .sell))))
         (record {
           sound = numbered;
           size = omega arith;
@@ -168,7 +169,8 @@ module _ (t : Terms) (e : Entry) (l : List Entry) (a : Arriving t e l) where
           );
         })
         (cond-either (Stage (t .m) (t .given + 1) 64 1) (quote e) (cutQuote 29 (e .party) (not (e .sell)) r) (still r)
-        (λ q. stage-cut r numbered (omega arith) 29 (e .party) (not (e .sell)) (omega arith) (omega (arith, a .fresh))) (λ q. stage-still r numbered (omega arith) 1))
+        (λ q. stage-cut r numbered (omega arith) 29 (e .party) (not (e .sell)) (omega arith) (omega (arith, a .fresh)))
+        (λ q. stage-still r numbered (omega arith) 1))
 
     finished-stage : (left why : ℕ) → left ≤ e .quantity → why ≤ 31 → (1 ≤ left → why ≡ 0 → Fits (t .m) left e r (pricesOf t e r))
         → Stage (t .m) (t .given + 1) 64 2 (finished t e left why r)

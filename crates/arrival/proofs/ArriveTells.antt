@@ -1,5 +1,5 @@
--- EVERY REPORT OF AN ARRIVAL is its rejection, the cancellation of a quote of its own maker, a trade that it took within its bound, or what became of its rest; and
--- only quotes are rejected or cancel quotes.
+-- EVERY REPORT OF AN ARRIVAL is its rejection, the cancellation of a quote of its own maker, a trade that it took within its bound, or what became of its rest;
+-- and only quotes are rejected or cancel quotes.
 -- Assumes nothing.
 use Prim.Native.Nat.{ℕ, zero, suc}
 use mathlib.Core.Path.{_≡_, refl}
@@ -16,7 +16,7 @@ use Rattle.lists.proofs.TestLaws.{all-append}
 use Rattle.lists.proofs.ChooseLaws.{Tells}
 use Rattle.packing.specs.declared.report.Report.{Report}
 use Rattle.book.specs.declared.Entry.{Entry}
-use Rattle.book.specs.Entries.{quote, quoteOf}
+use Rattle.book.specs.Entries.{quote, quoteOf, withQuantity}
 use Rattle.book.specs.Look.{quoteIn}
 use Rattle.book.proofs.LookLaws.{quote-tells}
 use Rattle.telling.specs.Tell.{rejected, traded, rested, cancelled}
@@ -24,8 +24,8 @@ use Rattle.terms.specs.declared.Terms.{Terms}
 use Rattle.terms.specs.Terms.{marketOf}
 use Rattle.arrival.specs.Cancel.{cut, cutQuote}
 use Rattle.arrival.specs.Take.{Taking, bound, took}
-use Rattle.arrival.specs.Post.{pricesOf, resting, stopFor}
-use Rattle.arrival.specs.Arrive.{ofQuotes, bothQuotes, rejectedBy, replaced, remainder, finished, entered, rejection, arrivedAs, arrived}
+use Rattle.arrival.specs.Post.{pricesOf, asPosted, stopFor}
+use Rattle.arrival.specs.Arrive.{ofQuotes, bothQuotes, rejectedBy, replaced, finished, entered, rejection, arrivedAs, arrived}
 use Rattle.arrival.proofs.ReasonLaws.{rejected-quote}
 use Rattle.arrival.proofs.TakeLaws.{took-tells}
 use Rattle.arrival.proofs.CutLaws.{OfMaker, of-maker}
@@ -40,8 +40,8 @@ pub record Says (t : Terms) (e : Entry) (l : List Entry) (P : Report → Type 0)
   pub rejects : quote e ≡ true → (why : ℕ) → P (rejected why e)
   pub cancels : quote e ≡ true → (why : ℕ) (s : Bool) (x : Entry) → OfMaker (e .party) s x → P (cancelled why x)
   pub trades : minds (e .kind) ≡ false → (y : Entry) (q : ℕ) → reaches (e .sell) (bound (marketOf t) e) (y .working) ≡ true → P (traded e y q)
-  pub rests : (left : ℕ) → stopFor t e (tradesOf t e l .final .book) ≡ 0 → P (rested (resting e left (pricesOf t e (tradesOf t e l .final .book))))
-  pub stops : (why left : ℕ) → P (cancelled why (remainder e left))
+  pub rests : (left : ℕ) → stopFor t e (tradesOf t e l .final .book) ≡ 0 → P (rested (asPosted e left (pricesOf t e (tradesOf t e l .final .book))))
+  pub stops : (why left : ℕ) → P (cancelled why (withQuantity left e))
 
 module _ (t : Terms) (e : Entry) (l : List Entry) (P : Report → Type 0) (s : Says t e l P) where
   cut-says : quote e ≡ true → (why : ℕ) (side : Bool) (r : List Entry) → All P (cutQuote why (e .party) side r .records)
@@ -58,7 +58,7 @@ module _ (t : Terms) (e : Entry) (l : List Entry) (P : Report → Type 0) (s : S
       cond-either (λ (x : Ran (List Entry) Report). All P (x .records)) (quote e) (cutQuote why (e .party) side r) (still r)
       (λ q. cut-says q why side r) (λ q. tt)
 
-  finished-says : (left why : ℕ) (r : List Entry) → (why ≡ 0 → P (rested (resting e left (pricesOf t e r)))) → All P (finished t e left why r .records)
+  finished-says : (left why : ℕ) (r : List Entry) → (why ≡ 0 → P (rested (asPosted e left (pricesOf t e r)))) → All P (finished t e left why r .records)
   unfolding still
   finished-says zero why r f = tt
   finished-says (suc left) zero r f = (f refl, tt)
@@ -78,7 +78,9 @@ module _ (t : Terms) (e : Entry) (l : List Entry) (P : Report → Type 0) (s : S
   rejected-says q why = (s .rejects q why, pick (bothQuotes why))
     where
       pick : (b : Bool)
-          → All P ((cond b (λ (r : List Entry). andThen (cutQuote 30 (e .party) false r) (cutQuote 30 (e .party) true)) (cutQuote 30 (e .party) (e .sell))) l .records)
+          → All P
+          ((cond b (λ (r : List Entry). andThen (cutQuote 30 (e .party) false r) (cutQuote 30 (e .party) true)) (cutQuote 30 (e .party) (e .sell)))
+          l .records)
       pick true =
           all-append P (cutQuote 30 (e .party) false l .records) (cutQuote 30 (e .party) true (cutQuote 30 (e .party) false l .final) .records)
           (cut-says q 30 false l) (cut-says q 30 true (cutQuote 30 (e .party) false l .final))

@@ -36,7 +36,10 @@ module _ (test : Entry → Bool) (key : Entry → ℕ) (b : Book) (w : WellForme
   unfolding cut
   cut-rank why nowhere r t e = rw e refl
   cut-rank why (found i x) r t e =
-      rw (e, at-same (entriesOf b) i x (getD (entriesOf b) i zeroEntry) (t .there) (at-getD (entriesOf b) i zeroEntry (at-inside (entriesOf b) i x (t .there)))) refl
+      rw (
+        e,
+        at-same (entriesOf b) i x (getD (entriesOf b) i zeroEntry) (t .there) (at-getD (entriesOf b) i zeroEntry (at-inside (entriesOf b) i x (t .there))),
+      ) refl
 
   -- what cancelling it asks
   pub rank-cuts : (why : ℕ) (f : Found Entry) (r : Rank) {room : List ℕ} {n : ℕ} → Tells test key (entriesOf b) f → r ≡ rankOf f

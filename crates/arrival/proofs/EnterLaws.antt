@@ -24,7 +24,7 @@ use Rattle.book.specs.declared.Entry.{Entry}
 use Rattle.book.specs.declared.Book.{Book}
 use Rattle.book.specs.declared.Pricing.{Pricing}
 use Rattle.book.specs.declared.Pricing.the-variants.{Fixed, Dark, Sliding}
-use Rattle.book.specs.Entries.{quote, display, shownAs}
+use Rattle.book.specs.Entries.{quote, display, shownAs, withQuantity}
 use Rattle.book.specs.Look.{contra, national}
 use Rattle.book.specs.Shape.{entriesOf, bookOf, WellFormed, Space}
 use Rattle.book.specs.Change.{post}
@@ -42,8 +42,9 @@ use Rattle.arrival.specs.declared.take.Trade.{Trade}
 use Rattle.terms.specs.Terms.{marketOf}
 use Rattle.arrival.specs.Cancel.{Asks, cutQuote}
 use Rattle.arrival.specs.Take.{Taking, bound, offered, nextTake, chances, taken, took}
-use Rattle.arrival.specs.Post.{pricesBefore, pricesOf, resting, stopFor, Posts}
-use Rattle.arrival.specs.Arrive.{reported, ofQuotes, bothQuotes, rejectedBy, posted, remainder, cancelledRest, finished, entered, noneTraded, stopsAtOnce, protectionBefore, protectionFor, orElse, rejection, arrivedAs, arrived}
+use Rattle.arrival.specs.Post.{pricesBefore, pricesOf, asPosted, stopFor, Posts}
+use Rattle.arrival.specs.Arrive.{reported, ofQuotes, bothQuotes, rejectedBy, posted, cancelledRest, finished, entered}
+use Rattle.arrival.specs.Arrive.{noneTraded, stopsAtOnce, protectionBefore, protectionFor, orElse, rejection, arrivedAs, arrived}
 use Rattle.arrival.specs.Asks.{trades, Arriving, Enters, tradeAs, NextTrade, Rests, Finishes}
 use Rattle.telling.proofs.StageLaws.{roomy-first, staged-then, staged-room, staged-none, staged-as, staged-go, roomy-as}
 use Rattle.arrival.proofs.TakeLaws.{take-falls, takes-now}
@@ -104,7 +105,8 @@ pub national-cents : {t : Terms} {e : Entry} {f : Facing} {b : Book} → Enters 
 national-cents {t} {e} {f} {b} n =
     let k = facts-of (n .arriving) in
     let g : NoneOrLegal (t .m) (national (e .sell) (away (marketOf t) (e .sell)) (entriesOf b)) =
-    given-nearest display (e .sell) (away (marketOf t) (e .sell)) (entriesOf b) (k .0 .given (e .sell)) (all-map (λ x h. given-display x h) (entriesOf b) (k .1 .entries)) in
+    given-nearest display (e .sell) (away (marketOf t) (e .sell)) (entriesOf b) (k .0 .given (e .sell))
+    (all-map (λ x h. given-display x h) (entriesOf b) (k .1 .entries)) in
     record { best = rw (n .faces .national) (given-high g); limit = is-legal (t .m) (e .limit) (n .arriving .limit) .high }
 
 pub protected-by : {t : Terms} {e : Entry} {f : Facing} {b : Book} → Enters t e f b → protectionBefore t e (f .national) ≡ protectionFor t e (entriesOf b)
@@ -126,7 +128,8 @@ module _ (t : Terms) (e : Entry) (l : List Entry) where
       from : Taking
       from = record { left = e .quantity; book = l }
 
-      pick : (g : Bool) → nextTake cap e from ≡ tradeAs e from g (r .at) (r .entry) (r .quantity) → g ≡ not (noneTraded (ran (nextTake cap e) chances from .records))
+      pick : (g : Bool) → nextTake cap e from ≡ tradeAs e from g (r .at) (r .entry) (r .quantity)
+          → g ≡ not (noneTraded (ran (nextTake cap e) chances from .records))
       pick false h = ap (λ (y : Ran Taking Report). not (noneTraded (y .records))) (sym (run-stop (nextTake cap e) chances from h))
       pick true h =
           ap (λ (y : Ran Taking Report). not (noneTraded (y .records)))
@@ -137,7 +140,8 @@ module _ (t : Terms) (e : Entry) (l : List Entry) where
       → false ≡ trades t e l
   trades-far so k cap p w h =
       sym (ap not (takes-now (marketOf t) e l
-      ∙ ap (λ (b : Bool). minds (e .kind) || (eqb (e .quantity) 0 || not b)) (far-off e l so (bound (marketOf t) e) (sym (ap (λ (c : ℕ). offered (e .sell) c (contra (e .sell) l)) (w ∙ ap (λ (x : Market). bound x e) p)) ∙ h))
+      ∙ ap (λ (b : Bool). minds (e .kind) || (eqb (e .quantity) 0 || not b))
+      (far-off e l so (bound (marketOf t) e) (sym (ap (λ (c : ℕ). offered (e .sell) c (contra (e .sell) l)) (w ∙ ap (λ (x : Market). bound x e) p)) ∙ h))
       ∙ all-true (minds (e .kind)) (eqb (e .quantity) 0)))
     where
       all-true : (a b : Bool) → (a || (b || true)) ≡ true
@@ -261,9 +265,9 @@ of-order e f l q = rw q refl
 -- ---- what is left rests ----
 
 module _ {t : Terms} {e : Entry} {c : ℕ} {b : Book} {left : ℕ} {room : List ℕ} {n : ℕ} (a : Rests t e c b left room n) (x : Entry) (s : Report)
-    (made : x ≡ resting e left (pricesBefore t e c)) (tells : s ≡ rested x) where
-  is : x ≡ resting e left (pricesOf t e (entriesOf b))
-  is = made ∙ ap (resting e left) (prices-known (a .posts))
+    (made : x ≡ asPosted e left (pricesBefore t e c)) (tells : s ≡ rested x) where
+  is : x ≡ asPosted e left (pricesOf t e (entriesOf b))
+  is = made ∙ ap (asPosted e left) (prices-known (a .posts))
 
   pub rest-room : Roomy room n (s ∷ [])
   rest-room = rw (tells, is) (a .roomy)
@@ -272,25 +276,25 @@ module _ {t : Terms} {e : Entry} {c : ℕ} {b : Book} {left : ℕ} {room : List 
       → Staged (posted t e left (entriesOf b)) room n after room′ n′
   rest-done p q =
       let free : Space b = record { well = a .posts .well; space = a .space } in
-      staged-go (entriesOf b) (post (resting e left (pricesOf t e (entriesOf b))) (entriesOf b)) (tells ∙ ap rested is) p
-      (q ∙ ap (λ (y : Entry). bookOf (post y (entriesOf b))) is) (post-fits b (resting e left (pricesOf t e (entriesOf b))) free)
+      staged-go (entriesOf b) (post (asPosted e left (pricesOf t e (entriesOf b))) (entriesOf b)) (tells ∙ ap rested is) p
+      (q ∙ ap (λ (y : Entry). bookOf (post y (entriesOf b))) is) (post-fits b (asPosted e left (pricesOf t e (entriesOf b))) free)
 
 -- ---- what is left is cancelled ----
 
 module _ (why : ℕ) (e : Entry) (left : ℕ) {b : Book} {room : List ℕ} {n : ℕ} (a : Asks (cancelledRest why e left (entriesOf b)) b room n) (x : Entry)
-    (s : Report) (is : x ≡ remainder e left) (tells : s ≡ cancelled why x) where
+    (s : Report) (is : x ≡ withQuantity left e) (tells : s ≡ cancelled why x) where
   abbrev otherGoes : List Entry → Ran (List Entry) Report
   otherGoes = ofQuotes e (cutQuote 29 (e .party) (not (e .sell)))
 
-  says : s ≡ cancelled why (remainder e left)
+  says : s ≡ cancelled why (withQuantity left e)
   says = tells ∙ ap (cancelled why) is
 
   pub cancel-room : Roomy room n (s ∷ [])
-  cancel-room = first-room (cancelled why (remainder e left)) s (entriesOf b) otherGoes says (a .roomy)
+  cancel-room = first-room (cancelled why (withQuantity left e)) s (entriesOf b) otherGoes says (a .roomy)
 
   module _ {room′ : List ℕ} {n′ : ℕ} (p : Put room n s room′ n′) where
-    first-told : Staged (reported (cancelled why (remainder e left)) (entriesOf b)) room n b room′ n′
-    first-told = told-staged (cancelled why (remainder e left)) s says (a .well) p
+    first-told : Staged (reported (cancelled why (withQuantity left e)) (entriesOf b)) room n b room′ n′
+    first-told = told-staged (cancelled why (withQuantity left e)) s says (a .well) p
 
     pub other-asks : quote e ≡ true → Asks (cutQuote 29 (e .party) (not (e .sell)) (entriesOf b)) b room′ n′
     other-asks q = record {

@@ -78,7 +78,13 @@ module _ {t : Terms} {e : Entry} {f : Facing} {trading : Bool} {b : Book} {room 
     rest-of-room = staged-room x (goesOn t e) all-room
 
     pub enter-takes : TakesOn t e trading c (e .quantity) room′ n′
-    enter-takes = record { well = x .well; whole = refl; trades = a .decides .trades ∙ sym (still-trades t e (entriesOf b) sound-before) ∙ ap (trades t e) (sym (staged-list x)); roomy = roomy-first (took (marketOf t) e (entriesOf c) .records) _ rest-of-room }
+    enter-takes =
+        record {
+          well = x .well;
+          whole = refl;
+          trades = a .decides .trades ∙ sym (still-trades t e (entriesOf b) sound-before) ∙ ap (trades t e) (sym (staged-list x));
+          roomy = roomy-first (took (marketOf t) e (entriesOf c) .records) _ rest-of-room;
+        }
 
     module _ {d : Book} {left : ℕ} {room″ : List ℕ} {n″ : ℕ} (y : TookAs (took (marketOf t) e (entriesOf c)) room′ n′ d left room″ n″) where
       abbrev run : Ran Taking Report

@@ -23,7 +23,7 @@ use Rattle.lists.proofs.TestLaws.{all-at, all-of}
 use Rattle.packing.specs.declared.report.Report.{Report}
 use Rattle.packing.specs.declared.report.Report.the-variants.{Noted, Rejected, Traded, Rested, Repriced, Cancelled}
 use Rattle.book.specs.declared.Entry.{Entry}
-use Rattle.book.specs.Entries.{quote, quoteOf, against}
+use Rattle.book.specs.Entries.{quote, quoteOf, against, withQuantity}
 use Rattle.book.specs.Change.{post}
 use Rattle.book.specs.Look.{working, contra, quoteIn}
 use Rattle.book.proofs.OfferLaws.{Best, best-one}
@@ -35,8 +35,8 @@ use Rattle.terms.specs.declared.Terms.{Terms}
 use Rattle.terms.specs.Terms.{marketOf}
 use Rattle.arrival.specs.Cancel.{cutQuote}
 use Rattle.arrival.specs.Take.{Taking, took}
-use Rattle.arrival.specs.Post.{pricesOf, resting, stopFor}
-use Rattle.arrival.specs.Arrive.{reported, bothQuotes, rejectedBy, replaced, remainder, finished, entered, noneTraded, rejection, arrivedAs, arrived, blocks}
+use Rattle.arrival.specs.Post.{pricesOf, asPosted, stopFor}
+use Rattle.arrival.specs.Arrive.{reported, bothQuotes, rejectedBy, replaced, finished, entered, noneTraded, rejection, arrivedAs, arrived, blocks}
 use Rattle.arrival.specs.Asks.{Arriving}
 use Rattle.arrival.proofs.ReasonLaws.{rejection-among, order-passes}
 use Rattle.arrival.proofs.TakeLaws.{took-all, took-sound}
@@ -138,7 +138,8 @@ protected-takes-both {t} {e} {l} a low =
     rejected-is t e l (omega arith) ∙ both-is (rejection t e l) e l low high in
     record {
       reports = ap (λ (x : Ran (List Entry) Report). x .records) same
-          ∙ ap (λ (rs : List Report). rejected (rejection t e l) e ∷ (rs ++ cutQuote 30 (e .party) true r .records)) (cut-reports 30 l (quoteIn (e .party) false l))
+          ∙ ap (λ (rs : List Report). rejected (rejection t e l) e ∷ (rs ++ cutQuote 30 (e .party) true r .records))
+          (cut-reports 30 l (quoteIn (e .party) false l))
           ∙ ap (λ (rs : List Report). rejected (rejection t e l) e ∷ (cancels 30 (quoteIn (e .party) false l) ++ rs))
           (cut-reports 30 r (quoteIn (e .party) true r) ∙ still-found so 30 (e .party) true (quoteIn (e .party) false l) (quote-tells l (e .party) false));
       gone = λ s. rw same (gone so s);
@@ -163,7 +164,7 @@ pub record TakesOpposite (t : Terms) (e : Entry) (l : List Entry) : Type 0 where
   -- quote on the opposite side, with 29, if there is one after the trades;
   pub reports : arrived t e l .records
       ≡ cancels 27 (quoteIn (e .party) (e .sell) l) ++ (tradesOf t e l .records
-      ++ (cancelled (stopFor t e (tradesOf t e l .final .book)) (remainder e (tradesOf t e l .final .left))
+      ++ (cancelled (stopFor t e (tradesOf t e l .final .book)) (withQuantity (tradesOf t e l .final .left) e)
       ∷ cancels 29 (quoteIn (e .party) (not (e .sell)) (tradesOf t e l .final .book))))
   -- no quote of that maker is left on either side;
   pub same-gone : All (OtherThan (e .party) (e .sell)) (arrived t e l .final)
@@ -177,7 +178,7 @@ entered-is t e l h = rw h refl
 
 -- what the end of an arrival is where something is left and a reason stops it
 stopped-is : (t : Terms) (e : Entry) (left why : ℕ) (l : List Entry) → 1 ≤ left → 1 ≤ why → quote e ≡ true
-    → finished t e left why l ≡ andThen (reported (cancelled why (remainder e left)) l) (cutQuote 29 (e .party) (not (e .sell)))
+    → finished t e left why l ≡ andThen (reported (cancelled why (withQuantity left e)) l) (cutQuote 29 (e .party) (not (e .sell)))
 stopped-is t e zero why l some stops q = absurd (omega arith)
 stopped-is t e (suc left) zero l some stops q = absurd (omega arith)
 stopped-is t e (suc left) (suc why) l some stops q = rw q refl
@@ -190,7 +191,7 @@ remainder-takes-opposite {t} {e} {l} a q h some stops =
     let b : List Entry = tradesOf t e l .final .book in
     let first : replaced e l ≡ cutQuote 27 (e .party) (e .sell) l = rw q refl in
     let last : finished t e (tradesOf t e l .final .left) (stopFor t e b) b
-    ≡ andThen (reported (cancelled (stopFor t e b) (remainder e (tradesOf t e l .final .left))) b) (cutQuote 29 (e .party) (not (e .sell))) =
+    ≡ andThen (reported (cancelled (stopFor t e b) (withQuantity (tradesOf t e l .final .left) e)) b) (cutQuote 29 (e .party) (not (e .sell))) =
     stopped-is t e (tradesOf t e l .final .left) (stopFor t e b) b some stops q in
     let sound : Sound (t .m) (t .given) r = rw first (quote-sound 27 (e .party) (e .sell) l so) in
     let final : arrived t e l .final ≡ cutQuote 29 (e .party) (not (e .sell)) b .final =
@@ -202,7 +203,7 @@ remainder-takes-opposite {t} {e} {l} a q h some stops =
           (ap (λ (x : Ran (List Entry) Report). x .records) first ∙ cut-reports 27 l (quoteIn (e .party) (e .sell) l))
           ∙ ap (λ (rs : List Report). cancels 27 (quoteIn (e .party) (e .sell) l) ++ (tradesOf t e l .records ++ rs))
           (ap (λ (x : Ran (List Entry) Report). x .records) last
-          ∙ ap (λ (rs : List Report). cancelled (stopFor t e b) (remainder e (tradesOf t e l .final .left)) ∷ rs)
+          ∙ ap (λ (rs : List Report). cancelled (stopFor t e b) (withQuantity (tradesOf t e l .final .left) e) ∷ rs)
           (cut-reports 29 b (quoteIn (e .party) (not (e .sell)) b)));
       same-gone = rw final (quote-all 29 (e .party) (not (e .sell)) b (OtherThan (e .party) (e .sell))
           (took-all (marketOf t) e r (OtherThan (e .party) (e .sell)) (λ n y k z. z) (rw first (quote-gone 27 (e .party) (e .sell) l so))));
@@ -235,7 +236,8 @@ orders-leave-quotes t e l q =
 -- and the book afterwards is what its trades left of the book before, with the order behind it if it rests
 pub order-book : (t : Terms) (e : Entry) (l : List Entry) → quote e ≡ false
     → (arrived t e l .final ≡ took (marketOf t) e l .final .book)
-    ⊎ (arrived t e l .final ≡ post (resting e (took (marketOf t) e l .final .left) (pricesOf t e (took (marketOf t) e l .final .book))) (took (marketOf t) e l .final .book))
+    ⊎ (arrived t e l .final
+    ≡ post (asPosted e (took (marketOf t) e l .final .left) (pricesOf t e (took (marketOf t) e l .final .book))) (took (marketOf t) e l .final .book))
 unfolding still
 order-book t e l q = rw (entered-is t e l (order-passes t e l q), q) (go (x .final .left) (stopFor t e (x .final .book)))
   where
@@ -243,7 +245,7 @@ order-book t e l q = rw (entered-is t e l (order-passes t e l q), q) (go (x .fin
     x = took (marketOf t) e l
 
     go : (left why : ℕ) → (finished t e left why (x .final .book) .final ≡ x .final .book)
-        ⊎ (finished t e left why (x .final .book) .final ≡ post (resting e left (pricesOf t e (x .final .book))) (x .final .book))
+        ⊎ (finished t e left why (x .final .book) .final ≡ post (asPosted e left (pricesOf t e (x .final .book))) (x .final .book))
     go zero why = inl refl
     go (suc left) zero = inr refl
     go (suc left) (suc why) = inl (rw q refl)
@@ -335,7 +337,7 @@ module _ (t : Terms) (e : Entry) (l : List Entry) (a : Arriving t e l) (minding 
       each : (d : ℕ) → seen (e .sell) d ≤ seen (e .sell) (p .working) → ShortOfAll (e .sell) d l
       each d front = all-of (λ (y : Entry). against (e .sell) y ≡ true → reaches (e .sell) d (y .working) ≡ false) l (λ i y h f.
           let r : Rests b y = there i y h f in
-          unreached (e .sell) d (y .working) (omega (arith, all-at (Clear (resting e left p)) b (r .place) y (fit .clear) (r .there) .clear f)))
+          unreached (e .sell) d (y .working) (omega (arith, all-at (Clear (asPosted e left p)) b (r .place) y (fit .clear) (r .there) .clear f)))
 
   aims-are : pricesOf t e (tradesOf t e l .final .book)
       ≡ aims (t .m) (e .kind) (e .sell) (e .limit) (away (marketOf t) (e .sell)) (contra (e .sell) (tradesOf t e l .final .book))
@@ -363,14 +365,15 @@ module _ (t : Terms) (e : Entry) (l : List Entry) (a : Arriving t e l) (minding 
             ∙ ap (aimWorking (t .m) (e .kind) (e .sell) (e .limit) (away (marketOf t) (e .sell))) (same-c c best);
       }
 
-  rests-so : (left : ℕ) → stopFor t e (tradesOf t e l .final .book) ≡ 0 → PricedOff t e l (rested (resting e left (pricesOf t e (tradesOf t e l .final .book))))
+  rests-so : (left : ℕ) → stopFor t e (tradesOf t e l .final .book) ≡ 0
+      → PricedOff t e l (rested (asPosted e left (pricesOf t e (tradesOf t e l .final .book))))
   rests-so left h = by (pricesOf t e (tradesOf t e l .final .book)) (priced-by h (pricesOf t e (tradesOf t e l .final .book)) refl)
     where
-      by : (p : Prices) → PricedBy t e l (e .sell) (p .display) (p .working) → PricedOff t e l (rested (resting e left p))
+      by : (p : Prices) → PricedBy t e l (e .sell) (p .display) (p .working) → PricedOff t e l (rested (asPosted e left p))
       by p z = rw slider z
 
--- AN MMALO BUY RESTS BELOW EVERY SELL, dark ones too, with its display and with its working price, a sell above every buy; and just there: both are its aims before
--- the best price of them all
+-- AN MMALO BUY RESTS BELOW EVERY SELL, dark ones too, with its display and with its working price, a sell above every buy; and just there: both are its aims
+-- before the best price of them all
 pub priced-off-dark : {t : Terms} {e : Entry} {l : List Entry} → Arriving t e l → minds (e .kind) ≡ true → All (PricedOff t e l) (arrived t e l .records)
 priced-off-dark {t} {e} {l} a k =
     arrived-says t e l (PricedOff t e l) (record {

@@ -1,5 +1,5 @@
--- Whether a quote is rejected is asked before the quote that it would replace has gone. That quote stands on its own side, where it neither trades nor stops it nor
--- changes the price that protection looks at: asked after it has gone, the answer is the same. So where a quote's rest is cancelled, something was traded.
+-- Whether a quote is rejected is asked before the quote that it would replace has gone. That quote stands on its own side, where it neither trades nor stops it
+-- nor changes the price that protection looks at: asked after it has gone, the answer is the same. So where a quote's rest is cancelled, something was traded.
 -- Assumes nothing.
 use Prim.Native.Nat.{ℕ, zero, suc, _+_, _≤_}
 use mathlib.Core.Path.{_≡_, refl, sym, subst, ap, _∙_}

@@ -1,6 +1,6 @@
--- WHAT POSTS IS SOUND WITH ALL THAT RESTS. What does not slide works at its limit: 20 did not stop it, so the limit was its bound and all within it that it might
--- take is taken, and 21 did not, so nothing undisplayed works there either. An MMRP works at its bound, and has taken all within it. An MMALO works one step short
--- of what it faces. 23 did not stop a display, so it is legal, and the aims are at most one step apart.
+-- WHAT POSTS IS SOUND WITH ALL THAT RESTS. What does not slide works at its limit: 20 did not stop it, so the limit was its bound and all within it that it
+-- might take is taken, and 21 did not, so nothing undisplayed works there either. An MMRP works at its bound, and has taken all within it. An MMALO works one
+-- step short of what it faces. 23 did not stop a display, so it is legal, and the aims are at most one step apart.
 -- Assumes nothing.
 use Prim.Native.Nat.{ℕ, _≤_, _<_, min}
 use mathlib.Core.Path.{_≡_, refl, sym, _∙_}
@@ -41,7 +41,7 @@ use Rattle.telling.proofs.PackLaws.{Packs}
 use Rattle.terms.specs.declared.Terms.{Terms}
 use Rattle.terms.specs.Terms.{marketOf}
 use Rattle.arrival.specs.Take.{bound, shownOnly}
-use Rattle.arrival.specs.Post.{pricesOf, pricingOf, resting, bars21, stopFor}
+use Rattle.arrival.specs.Post.{pricesOf, pricingOf, asPosted, bars21, stopFor}
 use Rattle.arrival.proofs.TakeLaws.{Cleared}
 
 -- ---- the bound, in the frame ----
@@ -101,7 +101,7 @@ module _ (m kind : ℕ) (s : Bool) (limit w d : ℕ) where
 pub record Fits (m left : ℕ) (e : Entry) (l : List Entry) (p : Prices) : Type 0 where
   pub works : Legal m (p .working)
   pub prices : PricedAs m (e .kind) (e .sell) (e .limit) (p .working) (pricingOf (e .kind) (p .display))
-  pub clear : All (Clear (resting e left p)) l
+  pub clear : All (Clear (asPosted e left p)) l
 
 module _ (t : Terms) (e : Entry) (l : List Entry) (left top : ℕ) (mk : MarketFacts (marketOf t)) (so : Sound (t .m) top l) (hl : Legal (t .m) (e .limit))
     (taken : minds (e .kind) ≡ false → Cleared (bound (marketOf t) e) e l) where
@@ -146,9 +146,9 @@ module _ (t : Terms) (e : Entry) (l : List Entry) (left top : ℕ) (mk : MarketF
       unmarketable (e .kind) (e .sell) (mk .step) (given-contra (e .sell) so) aim aim-is
       (minding-rests (e .kind) (e .sell) (contra (e .sell) l) aim mi)
 
-  slider-clear : sliding (e .kind) ≡ true → (b : Bool) → minds (e .kind) ≡ b → All (Clear (resting e left aim)) l
-  slider-clear sl true mi = short-clear so (resting e left aim) (short mi)
-  slider-clear sl false mi = all-of (Clear (resting e left aim)) l (λ i y at. record { clear = λ f. at-bound mi sl i y at f })
+  slider-clear : sliding (e .kind) ≡ true → (b : Bool) → minds (e .kind) ≡ b → All (Clear (asPosted e left aim)) l
+  slider-clear sl true mi = short-clear so (asPosted e left aim) (short mi)
+  slider-clear sl false mi = all-of (Clear (asPosted e left aim)) l (λ i y at. record { clear = λ f. at-bound mi sl i y at f })
 
   -- WHAT NOTHING STOPS MAY REST
   pub fits : stopFor t e l ≡ 0 → Fits (t .m) left e l (pricesOf t e l)
@@ -158,13 +158,15 @@ module _ (t : Terms) (e : Entry) (l : List Entry) (left top : ℕ) (mk : MarketF
       (bars23 (t .m) (e .kind) (e .sell) (pricesOf t e l .display)) (bars22 (t .m) (t .k) (e .kind) (e .sell) (e .limit) (pricesOf t e l .display)) h in
       by (sliding (e .kind)) refl (r .0) (r .1 .0) (r .1 .1 .0)
     where
-      by : (b : Bool) → sliding (e .kind) ≡ b → (not b && (not (eqb (away (marketOf t) (e .sell)) 0) && reaches (e .sell) (e .limit) (away (marketOf t) (e .sell)))) ≡ false
-          → bars21 e l ≡ false → (b && not (reaches (e .sell) ((cond b aim (record { display = e .limit; working = e .limit })) .display) (lastPrice (t .m) (e .sell)))) ≡ false
+      by : (b : Bool) → sliding (e .kind) ≡ b
+          → (not b && (not (eqb (away (marketOf t) (e .sell)) 0) && reaches (e .sell) (e .limit) (away (marketOf t) (e .sell)))) ≡ false
+          → bars21 e l ≡ false
+          → (b && not (reaches (e .sell) ((cond b aim (record { display = e .limit; working = e .limit })) .display) (lastPrice (t .m) (e .sell)))) ≡ false
           → Fits (t .m) left e l (cond b aim (record { display = e .limit; working = e .limit }))
       by false q b20 b21 b23 = record {
         works = hl;
         prices = rigid-prices (t .m) (e .kind) (e .sell) (e .limit) (e .limit) (e .limit) q refl;
-        clear = all-of (Clear (resting e left (record { display = e .limit; working = e .limit }))) l
+        clear = all-of (Clear (asPosted e left (record { display = e .limit; working = e .limit }))) l
             (λ i y at. record { clear = λ f. at-limit (rigid-takes (e .kind) q) b20 b21 i y at f });
       }
       by true q b20 b21 b23 =

@@ -216,7 +216,8 @@ module _ (phase : ℕ) (l : List Entry) {m top : ℕ} (so : Sound m top l) where
   pub sweep-packs : top ≤ lastNumber → AllPack (sweep phase l .records)
   sweep-packs low =
       all-pack (sweep phase l .records)
-      (complete-tells (Sound m top) Packs (λ s r t h g. sound-step (sweep-step phase s g) h) (λ s r t h g. fits (sweep-step phase s g) h) so (sweep-run phase l))
+      (complete-tells (Sound m top) Packs (λ s r t h g. sound-step (sweep-step phase s g) h) (λ s r t h g. fits (sweep-step phase s g) h) so
+      (sweep-run phase l))
     where
       fits : {s t : List Entry} {r : Report} → SweepStep phase s r t → Sound m top s → Packs r
       fits (sweeps {i = i} {e = e} c) h =

@@ -1,5 +1,5 @@
--- Trades on arrival: each uses up the taker or an entry that rests, so that taking ends by itself; what it keeps of the book; and that a taker with something left
--- has nothing left within its bound.
+-- Trades on arrival: each uses up the taker or an entry that rests, so that taking ends by itself; what it keeps of the book; and that a taker with something
+-- left has nothing left within its bound.
 -- Assumes nothing.
 use Prim.Native.Nat.{ℕ, _-_, _≤_, _<_, min}
 use mathlib.Core.Path.{_≡_, refl, ap}
@@ -64,7 +64,8 @@ module _ (cap : ℕ) (e : Entry) (t : Taking) where
           → (not (eqb (t .left) 0) && reaches (e .sell) cap (y .working)) ≡ b → tradeWith e t j y b ≡ go r u → TakeStep cap e t r u
       pick j y c false q g = never-goes g
       pick j y c true q g =
-          let some : t .left ≡ 0 → ⊥ = eqb-false (t .left) 0 (not-true (eqb (t .left) 0) (and-left (not (eqb (t .left) 0)) (reaches (e .sell) cap (y .working)) q)) in
+          let some : t .left ≡ 0 → ⊥ =
+          eqb-false (t .left) 0 (not-true (eqb (t .left) 0) (and-left (not (eqb (t .left) 0)) (reaches (e .sell) cap (y .working)) q)) in
           same-step (TakeStep cap e t) (takes-from c (omega (arith, some)) (and-right (not (eqb (t .left) 0)) (reaches (e .sell) cap (y .working)) q)) g
 
       at : (f : Found Entry) → ContraTells (e .sell) (shownOnly e) (t .book) f → takeAt cap e t f ≡ go r u → TakeStep cap e t r u
@@ -158,7 +159,8 @@ module _ (cap : ℕ) (e : Entry) (t : Taking) where
   take-all P f a = complete-keeps (λ (u : Taking). All P (u .book)) (λ s r u h g. more (take-step cap e s g) h) a take-run
     where
       more : {s u : Taking} {r : Report} → TakeStep cap e s r u → All P (s .book) → All P (u .book)
-      more {s} (takes-from {j = j} {y = y} c some within) h = all-hit P j (min (s .left) (y .quantity)) (s .book) (λ x k p. f (min (s .left) (y .quantity)) x k p) h
+      more {s} (takes-from {j = j} {y = y} c some within) h =
+          all-hit P j (min (s .left) (y .quantity)) (s .book) (λ x k p. f (min (s .left) (y .quantity)) x k p) h
       -- EACH ENTRY LEFT IS ONE THAT WAS THERE, of the same number, party, kind, side and limit, and its display has not moved back
 
 sound-step : {m top cap : ℕ} {e : Entry} {t u : Taking} {r : Report} → TakeStep cap e t r u → Sound m top (t .book) → Sound m top (u .book)
@@ -250,7 +252,8 @@ pub takes-now : (k : Market) (e : Entry) (l : List Entry)
 unfolding took still
 takes-now k e l = pick (minds (e .kind))
   where
-    pick : (z : Bool) → noneTraded ((cond z (still (record { left = e .quantity; book = l })) (taken (bound k e) e (record { left = e .quantity; book = l }))) .records)
+    pick : (z : Bool)
+        → noneTraded ((cond z (still (record { left = e .quantity; book = l })) (taken (bound k e) e (record { left = e .quantity; book = l }))) .records)
         ≡ (z || (eqb (e .quantity) 0 || not (withinBound (bound k e) e (bestContra (e .sell) (shownOnly e) l))))
     pick true = refl
     pick false = none-taken (bound k e) e (record { left = e .quantity; book = l })
@@ -296,7 +299,8 @@ module _ (k : Market) (e : Entry) (l : List Entry) where
       took-either (λ (x : Ran Taking Report). All P (x .final .book)) (λ _. a)
       (λ _. take-all (bound k e) e (record { left = e .quantity; book = l }) P f a)
 
-  pub took-tells : (P : Report → Type 0) → (minds (e .kind) ≡ false → (y : Entry) (q : ℕ) → reaches (e .sell) (bound k e) (y .working) ≡ true → P (traded e y q))
+  pub took-tells : (P : Report → Type 0)
+      → (minds (e .kind) ≡ false → (y : Entry) (q : ℕ) → reaches (e .sell) (bound k e) (y .working) ≡ true → P (traded e y q))
       → All P (took k e l .records)
   unfolding still
   took-tells P f =

@@ -93,11 +93,14 @@ module _ {cap : ℕ} {e : Entry} {left₀ : ℕ} {b₀ : Book} {room₀ : List �
       }
 
   module _ (g : x .going ≡ true) where
-    goes : nextTake cap e (takingOf left b) ≡ go (traded e (x .entry) (x .quantity)) (record { left = left - x .quantity; book = hit (x .at) (x .quantity) (entriesOf b) })
+    goes : nextTake cap e (takingOf left b)
+        ≡ go (traded e (x .entry) (x .quantity)) (record { left = left - x .quantity; book = hit (x .at) (x .quantity) (entriesOf b) })
     goes = nt .is ∙ rw g refl
 
     pub take-room : Roomy room n (traded e (x .entry) (x .quantity) ∷ [])
-    take-room = going-room (v .going) (take-falls cap e) (traded e (x .entry) (x .quantity)) (record { left = left - x .quantity; book = hit (x .at) (x .quantity) (entriesOf b) }) goes
+    take-room =
+        going-room (v .going) (take-falls cap e) (traded e (x .entry) (x .quantity))
+        (record { left = left - x .quantity; book = hit (x .at) (x .quantity) (entriesOf b) }) goes
 
     pub take-place : Place b (x .at)
     take-place = record { well = v .well; inside = omega (arith, nt .inside g, length-entries b (v .well)) }
@@ -107,11 +110,15 @@ module _ {cap : ℕ} {e : Entry} {left₀ : ℕ} {b₀ : Book} {room₀ : List �
       same = ap (λ (l : List Entry). record { left = left - x .quantity; book = l }) (sym (holds q (hit-fits b (x .at) (x .quantity) (v .well)) .list))
 
       pub take-less : chances (takingOf (left - x .quantity) c) < chances (takingOf left b)
-      take-less = rw same at (going-less (v .going) (take-falls cap e) (traded e (x .entry) (x .quantity)) (record { left = left - x .quantity; book = hit (x .at) (x .quantity) (entriesOf b) }) goes)
+      take-less =
+          rw same at (going-less (v .going) (take-falls cap e) (traded e (x .entry) (x .quantity))
+          (record { left = left - x .quantity; book = hit (x .at) (x .quantity) (entriesOf b) }) goes)
 
       pub take-on : (room′ : List ℕ) (n′ : ℕ) → room′ ≡ written room n (traded e (x .entry) (x .quantity) ∷ []) → n′ ≡ n + 1
           → TakingOn cap e left₀ b₀ room₀ n₀ (left - x .quantity) c room′ n′
       take-on room′ n′ w k = record {
         well = holds q (hit-fits b (x .at) (x .quantity) (v .well)) .well;
-        going = rw same at (going-on (v .going) (take-falls cap e) (traded e (x .entry) (x .quantity)) (record { left = left - x .quantity; book = hit (x .at) (x .quantity) (entriesOf b) }) goes w k);
+        going =
+            rw same at (going-on (v .going) (take-falls cap e) (traded e (x .entry) (x .quantity))
+            (record { left = left - x .quantity; book = hit (x .at) (x .quantity) (entriesOf b) }) goes w k);
       }

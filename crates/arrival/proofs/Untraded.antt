@@ -64,7 +64,8 @@ unfolding still
 none-run cap e (done g) h = refl
 none-run cap e (then g c) h = clash h refl
 
-pub none-took : (k : Market) (e : Entry) (l : List Entry) → noneTraded (took k e l .records) ≡ true → took k e l ≡ still (record { left = e .quantity; book = l })
+pub none-took : (k : Market) (e : Entry) (l : List Entry) → noneTraded (took k e l .records) ≡ true
+    → took k e l ≡ still (record { left = e .quantity; book = l })
 none-took k e l =
     took-either k e l (λ (x : Ran Taking Report). noneTraded (x .records) ≡ true → x ≡ still (record { left = e .quantity; book = l })) (λ _ h. refl)
     (λ _ h. none-run (bound k e) e (take-run (bound k e) e (record { left = e .quantity; book = l })) h)

@@ -10,7 +10,7 @@ use Rattle.prices.specs.Protect.{protection}
 use Rattle.lists.specs.Run.{Ran, still, andThen}
 use Rattle.packing.specs.declared.report.Report.{Report}
 use Rattle.book.specs.declared.Entry.{Entry}
-use Rattle.book.specs.Entries.{quote}
+use Rattle.book.specs.Entries.{quote, withQuantity}
 use Rattle.book.specs.Change.{post}
 use Rattle.book.specs.Look.{national}
 use Rattle.telling.specs.Tell.{rejected, rested, cancelled}
@@ -18,7 +18,7 @@ use Rattle.terms.specs.declared.Terms.{Terms}
 use Rattle.terms.specs.Terms.{marketOf, guardOf}
 use Rattle.arrival.specs.Cancel.{cutQuote}
 use Rattle.arrival.specs.Take.{Taking, took}
-use Rattle.arrival.specs.Post.{pricesOf, resting, stopFor}
+use Rattle.arrival.specs.Post.{pricesOf, asPosted, stopFor}
 
 -- a report of its own, and no change
 abbrev pub reported : Report → List Entry → Ran (List Entry) Report
@@ -52,24 +52,11 @@ replaced e l = ofQuotes e (cutQuote 27 (e .party) (e .sell)) l
 -- what is left rests, at the end of the rank
 abbrev pub posted : Terms → Entry → ℕ → List Entry → Ran (List Entry) Report
 posted t e left l =
-    record { final = post (resting e left (pricesOf t e l)) l; records = rested (resting e left (pricesOf t e l)) ∷ [] }
-
--- the entry with what is left of it
-abbrev pub remainder : Entry → ℕ → Entry
-remainder e left = record {
-  number = e .number;
-  party = e .party;
-  kind = e .kind;
-  sell = e .sell;
-  limit = e .limit;
-  quantity = left;
-  working = e .working;
-  pricing = e .pricing;
-}
+    record { final = post (asPosted e left (pricesOf t e l)) l; records = rested (asPosted e left (pricesOf t e l)) ∷ [] }
 
 -- "the rest is cancelled and", for a quote, "the maker's opposite quote too"; "29 opposite side"
 abbrev pub cancelledRest : ℕ → Entry → ℕ → List Entry → Ran (List Entry) Report
-cancelledRest why e left l = andThen (reported (cancelled why (remainder e left)) l) (ofQuotes e (cutQuote 29 (e .party) (not (e .sell))))
+cancelledRest why e left l = andThen (reported (cancelled why (withQuantity left e)) l) (ofQuotes e (cutQuote 29 (e .party) (not (e .sell))))
 
 -- the end of an arrival that was not rejected: nothing is left, or it posts, or it is stopped
 abbrev pub finished : Terms → Entry → ℕ → ℕ → List Entry → Ran (List Entry) Report

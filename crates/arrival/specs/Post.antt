@@ -13,6 +13,7 @@ use Rattle.book.specs.declared.Entry.{Entry}
 use Rattle.book.specs.declared.Pricing.{Pricing}
 use Rattle.book.specs.declared.Pricing.the-variants.{Fixed, Dark, Sliding}
 use Rattle.book.specs.declared.Book.{Book}
+use Rattle.book.specs.Entries.{withQuantity, withPrices}
 use Rattle.book.specs.Shape.{entriesOf, WellFormed}
 use Rattle.book.specs.Look.{contra, hiddenWithin}
 use Rattle.terms.specs.declared.Terms.{Terms}
@@ -31,17 +32,8 @@ abbrev pub pricingOf : ℕ → ℕ → Pricing
 pricingOf kind display = cond (sliding kind) (Sliding display) (cond (dark kind) Dark Fixed)
 
 -- the entry as it rests, with what is left
-abbrev pub resting : Entry → ℕ → Prices → Entry
-resting e left p = record {
-  number = e .number;
-  party = e .party;
-  kind = e .kind;
-  sell = e .sell;
-  limit = e .limit;
-  quantity = left;
-  working = p .working;
-  pricing = pricingOf (e .kind) (p .display);
-}
+abbrev pub asPosted : Entry → ℕ → Prices → Entry
+asPosted e left p = withQuantity left (withPrices (p .working) (pricingOf (e .kind) (p .display)) e)
 
 -- "21, MMLO and an undisplayed sell works at L or less"
 abbrev pub bars21 : Entry → List Entry → Bool
@@ -52,8 +44,8 @@ unfoldable pub stopFor : Terms → Entry → List Entry → ℕ
 stopFor t e l =
     stopped (t .m) (t .k) (e .kind) (e .sell) (e .limit) (away (marketOf t) (e .sell)) (bars21 e l) (pricesOf t e l .display)
 
--- what the functions ask of their callers: a well-formed book, K as setup allows it, an M that is listed, and an away price and a contra price c that are none or
--- legal; c is the C of the book for a kind that minds it, and any other kind may have traded since c was seen
+-- what the functions ask of their callers: a well-formed book, K as setup allows it, an M that is listed, and an away price and a contra price c that are none
+-- or legal; c is the C of the book for a kind that minds it, and any other kind may have traded since c was seen
 pub record Posts (t : Terms) (e : Entry) (b : Book) (c : ℕ) : Type 0 where
   pub well : WellFormed b
   pub steps : t .k ≤ 100

@@ -34,7 +34,8 @@ ghost use Rattle.telling.specs.Stage.{Staged};
 ghost use Rattle.terms.specs.Terms.{marketOf};
 ghost use Rattle.arrival.specs.Take.{took};
 ghost use Rattle.arrival.specs.Post.{stopFor};
-ghost use Rattle.arrival.specs.Arrive.{protectionBefore, stopsAtOnce, rejection, rejectedBy, replaced, posted, remainder, cancelledRest, finished, entered, arrived};
+ghost use Rattle.arrival.specs.Arrive.{protectionBefore, stopsAtOnce, rejection, rejectedBy, replaced, posted, cancelledRest, finished, entered, arrived};
+ghost use Rattle.book.specs.Entries.{withQuantity};
 ghost use Rattle.arrival.specs.Cancel.{Asks};
 ghost use Rattle.arrival.specs.Asks.{trades, Enters, EntersTrading, Arrives, Goes, Finishes, Rests, TakesOn, TookAs};
 
@@ -136,7 +137,7 @@ fn post_rest(
 }
 
 fn remainder_of(e: Entry, left: u32) -> Entry
-    ensures { λ r. ⌜ r ≡ remainder e left ⌝ }
+    ensures { λ r. ⌜ r ≡ withQuantity left e ⌝ }
 {
     let mut rest = e;
     rest.quantity = left;
@@ -176,7 +177,8 @@ fn finish(
     n: &mut usize,
 ) -> Book
     requires { ⌜ Finishes t e contra b left (now room) (now n) ⌝ }
-    ensures { λ r. ⌜ Staged (finished t e left (stopFor t e (entriesOf b)) (entriesOf b)) (now (room .entry)) (now (n .entry)) r (now (room .exit)) (now (n .exit)) ⌝ }
+    ensures { λ r.
+        ⌜ Staged (finished t e left (stopFor t e (entriesOf b)) (entriesOf b)) (now (room .entry)) (now (n .entry)) r (now (room .exit)) (now (n .exit)) ⌝ }
 {
     if left == 0 {
         return b;

@@ -18,7 +18,7 @@ ghost use Rattle.prices.specs.Side.{away};
 ghost use Rattle.prices.specs.Aims.{Bounds};
 ghost use Rattle.book.specs.Shape.{entriesOf, WellFormed};
 ghost use Rattle.terms.specs.Terms.{marketOf};
-ghost use Rattle.arrival.specs.Post.{pricesBefore, pricingOf, resting, bars21, stopFor, Posts};
+ghost use Rattle.arrival.specs.Post.{pricesBefore, pricingOf, asPosted, bars21, stopFor, Posts};
 
 // The prices at which it would rest, before this contra price.
 pub fn prices_of(t: Terms, e: Entry, contra: u32) -> Prices
@@ -50,7 +50,7 @@ fn pricing_of(kind: u32, display: u32) -> Pricing
 
 // The entry as it rests, with what is left.
 pub fn rest_of(e: Entry, left: u32, p: Prices) -> Entry
-    ensures { λ r. ⌜ r ≡ resting e left p ⌝ }
+    ensures { λ r. ⌜ r ≡ asPosted e left p ⌝ }
 {
     let pricing = pricing_of(kind_of(e), p.display);
     Entry {

@@ -84,7 +84,8 @@ pub fn next_trade(b: Book, e: Entry, cap: u32, left: u32) -> Trade
 // Takes the best, again and again, as far as the bound reaches and something is left.
 pub fn take_all(b: Book, e: Entry, cap: u32, left: &mut u32, room: &mut [u8], n: &mut usize) -> Book
     requires { ⌜ Takes (taken cap e (takingOf (now left) b)) b (now room) (now n) ⌝ }
-    ensures { λ r. ⌜ TookAs (taken cap e (takingOf (now (left .entry)) b)) (now (room .entry)) (now (n .entry)) r (now (left .exit)) (now (room .exit)) (now (n .exit)) ⌝ }
+    ensures { λ r.
+        ⌜ TookAs (taken cap e (takingOf (now (left .entry)) b)) (now (room .entry)) (now (n .entry)) r (now (left .exit)) (now (room .exit)) (now (n .exit)) ⌝ }
 {
     let mut c = b;
     loop {

@@ -63,13 +63,15 @@ begins start run out = record { left = length run; same = refl; enough = omega a
 module _ {start s : Series} {run out₀ out : List ℕ} {at used : ℕ} (p : Playing start run out₀ s at out used) where
   pub ends : goesOn (length run) at (length out) used ≡ false → (used ≡ played start run out₀ .0) × (out ≡ played start run out₀ .1)
   unfolding playedOn
-  ends h = let e : playedOn (p .left) s run at out used ≡ (used, out) = by (p .left) in (ap (λ (x : ℕ × List ℕ). x .0) (sym e ∙ p .same), ap (λ (x : ℕ × List ℕ). x .1) (sym e ∙ p .same))
+  ends h = let e : playedOn (p .left) s run at out used ≡ (used, out) = by (p .left) in
+      (ap (λ (x : ℕ × List ℕ). x .0) (sym e ∙ p .same), ap (λ (x : ℕ × List ℕ). x .1) (sym e ∙ p .same))
     where
       by : (n : ℕ) → playedOn n s run at out used ≡ (used, out)
       by zero = refl
       by (suc n) = rw h refl
 
-  pub goes : {s′ : Series} {out′ : List ℕ} {used′ : ℕ} → goesOn (length run) at (length out) used ≡ true → Turned s run at out used s′ used′ out′ → length out′ ≡ length out → Playing start run out₀ s′ (at + 11) out′ used′
+  pub goes : {s′ : Series} {out′ : List ℕ} {used′ : ℕ} → goesOn (length run) at (length out) used ≡ true → Turned s run at out used s′ used′ out′
+      → length out′ ≡ length out → Playing start run out₀ s′ (at + 11) out′ used′
   unfolding playedOn
   goes {s′} {out′} {used′} h t k = by (p .left) (p .same) (p .enough)
     where
@@ -90,7 +92,8 @@ module _ {start s : Series} {run out₀ out : List ℕ} {at used : ℕ} (p : Pla
 -- a part that runs to the end, put back
 pub part-back : (out ys : List ℕ) (used : ℕ) → used ≤ length out → take used out ++ (ys ++ drop (length out - used) (drop used out)) ≡ take used out ++ ys
 part-back out ys used h =
-    ap (λ (l : List ℕ). take used out ++ l) (ap (λ (l : List ℕ). ys ++ l) (drop-of-length-le (drop used out) {i = length out - used} (rw length-drop (omega arith))) ∙ append-nil ys)
+    ap (λ (l : List ℕ). take used out ++ l)
+    (ap (λ (l : List ℕ). ys ++ l) (drop-of-length-le (drop used out) {i = length out - used} (rw length-drop (omega arith))) ∙ append-nil ys)
 
 -- what is lent to the handler is all that stands behind `used`
 pub lent : (s : Series) (run : List ℕ) (at : ℕ) (out : List ℕ) (used : ℕ) → used ≤ length out

@@ -37,7 +37,8 @@ unfoldable pub playedOn : ℕ → Series → List ℕ → ℕ → List ℕ → �
 playedOn zero s run at out used = (used, out)
 playedOn (suc n) s run at out used =
     cond (goesOn (length run) at (length out) used)
-    (playedOn n (handledAt s run at (drop used out) .answer .series) run (at + 11) (marked out used (handledAt s run at (drop used out))) (endOf used (handledAt s run at (drop used out))))
+    (playedOn n (handledAt s run at (drop used out) .answer .series) run (at + 11) (marked out used (handledAt s run at (drop used out)))
+    (endOf used (handledAt s run at (drop used out))))
     (used, out)
 
 -- THE WHOLE RUN: it has no more messages than bytes

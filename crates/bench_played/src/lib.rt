@@ -69,7 +69,9 @@ fn play(start: Series, run: &[u8], out: &mut [u8]) -> usize
 // The same from a setup: 0, and nothing written, where it sets up no series.
 #[no_mangle]
 pub extern "C" fn waxglimmer_play(setup: &[u8], run: &[u8], out: &mut [u8]) -> usize
-    ensures { λ r. ⌜ (r ≡ playedFrom (now (setup .entry)) (now (run .entry)) (now (out .entry)) .0) × (now (out .exit) ≡ playedFrom (now (setup .entry)) (now (run .entry)) (now (out .entry)) .1) ⌝ }
+    ensures { λ r.
+        ⌜ (r ≡ playedFrom (now (setup .entry)) (now (run .entry)) (now (out .entry)) .0)
+        × (now (out .exit) ≡ playedFrom (now (setup .entry)) (now (run .entry)) (now (out .entry)) .1) ⌝ }
 {
     let made = open_series(setup);
     if made.refusal != 0 {

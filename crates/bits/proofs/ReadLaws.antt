@@ -54,4 +54,5 @@ reading-step ws v xs after j x h k e =
 
 pub reading-done : (ws : List ℕ) (v : ℕ) (xs : List ℕ) (after : ℕ) → Reading ws v xs after (length ws) → xs ≡ split ws v
 reading-done ws v xs after h =
-    sym (take-length xs) ∙ ap (λ (k : ℕ). take k xs) (h .same) ∙ h .done ∙ ap (λ (k : ℕ). take k (split ws v)) (sym (length-split ws v)) ∙ take-length (split ws v)
+    sym (take-length xs) ∙ ap (λ (k : ℕ). take k xs) (h .same) ∙ h .done ∙ ap (λ (k : ℕ). take k (split ws v)) (sym (length-split ws v))
+    ∙ take-length (split ws v)

@@ -5,7 +5,8 @@ use mathlib.Core.Path.{_≡_, refl, sym, ap, ap₂, _∙_}
 use lib.ListN.{length, getD, take, drop, set, length-set, length-drop}
 use lib.Seq.{drop-cons, drop-length, getD-set-same, drop-set-lt, take-set-le, take-take, getD-take}
 use lib.Pow.{pow-pos, pow-add, pow-mono, low}
-use native.Mathlib.Nat.{mod-lt, mod-eq-of-lt, div-add-mod, add-mul-mod-self-left, mul-add-mod-self-right, sub-zero, mul-le-mul-right, le-refl, le-pred-of-lt, div-add-mod'}
+use native.Mathlib.Nat.{mod-lt, mod-eq-of-lt, div-add-mod, add-mul-mod-self-left, mul-add-mod-self-right}
+use native.Mathlib.Nat.{sub-zero, mul-le-mul-right, le-refl, le-pred-of-lt, div-add-mod'}
 use lib.Dec.{lit<}
 use native.Mathlib.Omega.{arith}
 use native.Mathlib.Numerals.{add-one}

@@ -20,8 +20,8 @@ use Rattle.book.specs.declared.Entry.{Entry}
 use Rattle.book.specs.declared.Front.{Front}
 use Rattle.book.specs.declared.Least.{Least}
 use Rattle.book.specs.Entries.{display, displayed, against, ownEntry, quoteOf}
-use Rattle.book.specs.Look.{noKey, rankOf, rankHeld, lowerKey, cost, priority, eligible, bestContra, entryOf, quoteIn, lowest}
-use Rattle.book.specs.Look.{working, facing, nearest, contra, frontOf, contraIn, frontTurn, national}
+use Rattle.book.specs.Look.{noKey, rankOf, rankHeld, lowerKey, cost, priority, eligible, bestContra, entryOf, quoteIn}
+use Rattle.book.specs.Look.{lowest, working, facing, nearest, contra, frontOf, contraIn, frontTurn, national}
 use Rattle.book.proofs.OfferLaws.{Best, Alone, best-alone, best-nearer, best-same}
 
 -- THE BEST CONTRA ENTRY has the best price of all that are eligible; of those at its price none is displayed unless it is; and of those that

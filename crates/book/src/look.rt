@@ -13,8 +13,8 @@ ghost use mathlib.Core.Path.{_≡_};
 ghost use mathlib.Core.Bool.{true, cond};
 ghost use Prim.Native.Nat.{_<_};
 ghost use Rattle.book.specs.Shape.{entriesOf, WellFormed};
-ghost use Rattle.book.specs.Look.{noKey, cost, priority, eligible, bestContra, rankOf, lowerKey, noneMet, rankHeld, Sooner};
-ghost use Rattle.book.specs.Look.{working, facing, contraIn, frontOf, frontTurn, hidden, hiddenWithin};
+ghost use Rattle.book.specs.Look.{noKey, cost, priority, eligible, bestContra, rankOf, lowerKey, noneMet, rankHeld};
+ghost use Rattle.book.specs.Look.{Sooner, working, facing, contraIn, frontOf, frontTurn, hidden, hiddenWithin};
 ghost use Rattle.book.specs.Entries.{displayed};
 ghost use Rattle.lists.specs.Choose.{keyed};
 

@@ -33,13 +33,18 @@ use Rattle.handler.specs.Handle.{inRoom, refused, accepted, judged}
 use Rattle.handler.proofs.Stages.{settled-open, then-sound, then-room, then-done, accepted-answer}
 use Rattle.handler.proofs.HandleLaws.{acts-accepted}
 
-pub told-staged : (b : Book) {room : List ℕ} {n : ℕ} {room′ : List ℕ} {n′ : ℕ} → WellFormed b → Put room n Noted room′ n′ → Staged (reported Noted (entriesOf b)) room n b room′ n′
+pub told-staged : (b : Book) {room : List ℕ} {n : ℕ} {room′ : List ℕ} {n′ : ℕ} → WellFormed b → Put room n Noted room′ n′
+    → Staged (reported Noted (entriesOf b)) room n b room′ n′
 told-staged b w p = record { book = book-of-entries b w; well = w; bytes = p .bytes; count = p .count }
 
 pub settle-open : {t : Terms} {b : Book} {room : List ℕ} {n : ℕ} → SettlesIf t b room n → t .phase ≡ 1 → (k : Market) → k ≡ marketOf t → Settleable k b room n
 settle-open {t} {b} {room} {n} x p k q =
     subst (λ (y : Market). Settleable y b room n) (sym q)
-    (record { well = x .well; sound = x .sound; roomy = roomy-as (ap (λ (y : Ran (List Entry) Report). y .records) (settled-open t (entriesOf b) (eq-eqb (t .phase) 1 p))) (x .roomy) })
+    (record {
+      well = x .well;
+      sound = x .sound;
+      roomy = roomy-as (ap (λ (y : Ran (List Entry) Report). y .records) (settled-open t (entriesOf b) (eq-eqb (t .phase) 1 p))) (x .roomy);
+    })
 
 module _ (s : Series) {check : Check} (a : Ask) (x : Acts s check a) {room : List ℕ} (space : roomSize ≤ length room) {b : Book} {room′ : List ℕ} {n′ : ℕ}
     (first : Staged (ownPart (s .terms) a (entriesOf (s .book))) room 0 b room′ n′) (t : Terms) (e : t ≡ termsAfter (s .terms) a) where
@@ -60,7 +65,8 @@ module _ (s : Series) {check : Check} (a : Ask) (x : Acts s check a) {room : Lis
   accept-done {after} {room″} {n″} second blocking k r q =
       ap (λ (z : Series). inRoom (record { refusal = 0; count = n″; series = z }) room″) q
       ∙ accepted-answer s a
-      (then-done s a (acts-accepted x) space first (subst (λ (y : Terms). Staged (settledIf y (entriesOf b)) room′ n′ after room″ n″) e second)) e (marked blocking k)
+      (then-done s a (acts-accepted x) space first (subst (λ (y : Terms). Staged (settledIf y (entriesOf b)) room′ n′ after room″ n″) e second)) e
+      (marked blocking k)
 
 module _ (s : Series) (a : Ask) (room : List ℕ) where
   pub judged-refused : (why : ℕ) → why ≡ refusalOf s a → (why ≡ 0 → ⊥) → (r : Answer) → r ≡ record { refusal = why; count = 0; series = s }

@@ -1,5 +1,5 @@
--- AN ACCEPTED MESSAGE LEAVES A SOUND SERIES. Whatever its kind, its own part and settling behind it keep the entries sound, at most 64 and as the phase has them;
--- and the reports of both are fit to be packed and at most 2,280, so that a room of 31,920 bytes is enough.
+-- AN ACCEPTED MESSAGE LEAVES A SOUND SERIES. Whatever its kind, its own part and settling behind it keep the entries sound, at most 64 and as the phase has
+-- them; and the reports of both are fit to be packed and at most 2,280, so that a room of 31,920 bytes is enough.
 -- Assumes nothing.
 use Prim.Native.Nat.{ℕ, suc, _+_, _≤_}
 use mathlib.Core.Path.{_≡_, refl, ap}
@@ -34,7 +34,8 @@ use Rattle.terms.specs.Terms.{marketOf}
 use Rattle.arrival.specs.Cancel.{swept, cancelEntry, cancelQuote, sweep}
 use Rattle.arrival.specs.Arrive.{reported, arrived}
 use Rattle.arrival.proofs.ArriveKeeps.{arrives, own-few}
-use Rattle.arrival.proofs.CutLaws.{quote-length, quote-few, quote-all, cut-all, cancel-entry-sound, cancel-entry-packs, cancel-entry-few, cancel-entry-length, cancel-quote-sound, cancel-quote-packs}
+use Rattle.arrival.proofs.CutLaws.{quote-length, quote-few, quote-all, cut-all, cancel-entry-sound, cancel-entry-packs}
+use Rattle.arrival.proofs.CutLaws.{cancel-entry-few, cancel-entry-length, cancel-quote-sound, cancel-quote-packs}
 use Rattle.arrival.proofs.SweepLaws.{spared, sweep-sound, sweep-packs, sweep-few, sweep-leaves, sweep-closed, sweep-halted}
 use Rattle.series.specs.declared.Series.{Series}
 use Rattle.series.specs.Series.{soundSeries}
@@ -116,7 +117,8 @@ module _ (m top phase : ℕ) (l : List Entry) (step : mpv m ≡ true) (low : top
 
 module _ (s : Series) (a : Ask) (ok : Accepted s a) where
   -- THE MESSAGE'S OWN PART
-  pub own-part : Part (termsAfter (s .terms) a .m) (termsAfter (s .terms) a .given) (termsAfter (s .terms) a .phase) 72 (ownPart (s .terms) a (entriesOf (s .book)))
+  pub own-part : Part (termsAfter (s .terms) a .m) (termsAfter (s .terms) a .given) (termsAfter (s .terms) a .phase) 72
+      (ownPart (s .terms) a (entriesOf (s .book)))
   unfolding ownPart termsAfter
   own-part = go (enters (a .kind)) refl (eqb (a .kind) 7) refl (eqb (a .kind) 8) refl (eqb (a .kind) 11) refl
     where
@@ -137,19 +139,28 @@ module _ (s : Series) (a : Ask) (ok : Accepted s a) where
       go true q b₇ q₇ b₈ q₈ true q₁₁ = clash q₁₁ (no-such enters 11 (a .kind) (stays-out 11 refl) q)
       go true q b₇ q₇ b₈ q₈ false q₁₁ =
           let r = arrives (accepted-arriving s a ok q) in
-          record { sound = r .sound; size = r .size; rests = rw (enters-open s a ok q) (phase-open _); fit = r .fit; few = own-few (accepted-arriving s a ok q) }
+          record {
+            sound = r .sound;
+            size = r .size;
+            rests = rw (enters-open s a ok q) (phase-open _);
+            fit = r .fit;
+            few = own-few (accepted-arriving s a ok q);
+          }
       go false q true q₇ b₈ q₈ true q₁₁ = absurd (omega (arith, eqb-true (a .kind) 7 q₇, eqb-true (a .kind) 11 q₁₁))
       go false q true q₇ b₈ q₈ false q₁₁ =
-          entry-part (t .m) (t .given) (t .phase) l (facts s a ok .step) (facts s a ok .sound .most) (facts s a ok .entries) (facts s a ok .size) (a .party) (a .entry)
+          entry-part (t .m) (t .given) (t .phase) l (facts s a ok .step) (facts s a ok .sound .most) (facts s a ok .entries) (facts s a ok .size) (a .party)
+          (a .entry)
           (facts s a ok .sound .phase)
       go false q false q₇ true q₈ true q₁₁ = absurd (omega (arith, eqb-true (a .kind) 8 q₈, eqb-true (a .kind) 11 q₁₁))
       go false q false q₇ true q₈ false q₁₁ =
-          quote-part (t .m) (t .given) (t .phase) l (facts s a ok .step) (facts s a ok .sound .most) (facts s a ok .entries) (facts s a ok .size) (a .party) (a .sell)
+          quote-part (t .m) (t .given) (t .phase) l (facts s a ok .step) (facts s a ok .sound .most) (facts s a ok .entries) (facts s a ok .size) (a .party)
+          (a .sell)
           (facts s a ok .sound .phase)
       go false q false q₇ false q₈ true q₁₁ =
           phase-part (t .m) (t .given) (a .quantity) l (facts s a ok .step) (facts s a ok .sound .most) (facts s a ok .entries) (facts s a ok .size)
       go false q false q₇ false q₈ false q₁₁ =
-          noted-part (t .m) (t .given) (t .phase) l (facts s a ok .step) (facts s a ok .sound .most) (facts s a ok .entries) (facts s a ok .size) (facts s a ok .sound .phase)
+          noted-part (t .m) (t .given) (t .phase) l (facts s a ok .step) (facts s a ok .sound .most) (facts s a ok .entries) (facts s a ok .size)
+          (facts s a ok .sound .phase)
 
   -- which settling finds sound
   abbrev pub own-sound : SoundFor (marketOf (termsAfter (s .terms) a)) (ownPart (s .terms) a (entriesOf (s .book)) .final)
@@ -179,7 +190,8 @@ module _ (s : Series) (a : Ask) (ok : Accepted s a) where
 
   -- ---- both together ----
 
-  pub done-part : Part (termsAfter (s .terms) a .m) (termsAfter (s .terms) a .given) (termsAfter (s .terms) a .phase) mostReports (done (s .terms) a (entriesOf (s .book)))
+  pub done-part : Part (termsAfter (s .terms) a .m) (termsAfter (s .terms) a .given) (termsAfter (s .terms) a .phase) mostReports
+      (done (s .terms) a (entriesOf (s .book)))
   unfolding done
   done-part = record {
     sound = settle-part .sound;
@@ -212,7 +224,8 @@ module _ (s : Series) (a : Ask) (ok : Accepted s a) where
     own-room = record { space = omega (arith, own-part .few); fit = own-part .fit }
 
 -- ACCEPTED MESSAGES GIVE ONLY SOUND STATES, whatever is handed in
-pub accepted-sound : (s : Series) (message room : List ℕ) → handled s message room .answer .refusal ≡ 0 → soundSeries (handled s message room .answer .series) ≡ true
+pub accepted-sound : (s : Series) (message room : List ℕ) → handled s message room .answer .refusal ≡ 0
+    → soundSeries (handled s message room .answer .series) ≡ true
 accepted-sound s message room h =
     let w : Accepting s message room = accepting s message room h in
     rw (handled-accepted s message room (w .space) (w .sound) (w .event) (w .read) (w .passes))

@@ -80,7 +80,8 @@ module _ (s : Series) (a : Ask) (ok : Accepted s a) (flags : length (s .blocked)
   unfolding blockedAfter blocks
   same-is k low = rw (ne-eqb (a .kind) 12 k) (go (quotes (a .kind)) refl)
     where
-      go : (b : Bool) → quotes (a .kind) ≡ b → cond (b && blocks (s .terms) (comer (s .terms .given) a) (entriesOf (s .book))) (set (s .blocked) (a .party - 1) true) (s .blocked) ≡ s .blocked
+      go : (b : Bool) → quotes (a .kind) ≡ b
+          → cond (b && blocks (s .terms) (comer (s .terms .given) a) (entriesOf (s .book))) (set (s .blocked) (a .party - 1) true) (s .blocked) ≡ s .blocked
       go true q = rw (one-side (rejectionOf s a) (low q)) refl
       go false q = refl
 

@@ -1,6 +1,6 @@
--- WHAT AN ACCEPTED MESSAGE GIVES, said of `handled` for every series, message and room: its reports stand at the front of the room and nowhere else, and are read
--- back from there; they are at most 2,280; settling took at most N(N+5)/2 steps, with one report each, and left nothing to do; and what is answered in a run.
--- Assumes nothing.
+-- WHAT AN ACCEPTED MESSAGE GIVES, said of `handled` for every series, message and room: its reports stand at the front of the room and nowhere else, and are
+-- read back from there; they are at most 2,280; settling took at most N(N+5)/2 steps, with one report each, and left nothing to do; and what is answered in a
+-- run. Assumes nothing.
 use Prim.Native.Nat.{ℕ, _+_, _*_, _≤_, _<_}
 use mathlib.Core.Path.{_≡_, refl, sym, subst, ap, _∙_}
 use mathlib.Core.Bool.{Bool, true, false, cond}
@@ -109,8 +109,8 @@ pub record Demand3 (s : Series) (a : Ask) (h : Handled) : Type 0 where
   pub entries : entriesOf (h .answer .series .book) ≡ settlingOf s a .final
   -- "in an open series": in no other is anything settled
   pub shut : (h .answer .series .terms .phase ≡ 1 → ⊥) → settlingOf s a ≡ still (ownOf s a .final)
-  -- in an open series settling is done to its end: its reports are those of easing, then those of trades and moves, and each of the two is a whole run of steps,
-  -- from the entries that it finds to those at which there is none
+  -- in an open series settling is done to its end: its reports are those of easing, then those of trades and moves, and each of the two is a whole run of
+  -- steps, from the entries that it finds to those at which there is none
   pub whole : h .answer .series .terms .phase ≡ 1 → WholeRuns (marketOf (h .answer .series .terms)) (ownOf s a .final) (settlingOf s a)
   -- afterwards no entry is marketable, off its resting prices, or to be eased
   pub unstirred : h .answer .series .terms .phase ≡ 1 → (i : ℕ) (x : Entry) → At (entriesOf (h .answer .series .book)) i x
@@ -144,7 +144,8 @@ module _ (s : Series) (a : Ask) (acc : Accepted s a) (room : List ℕ) where
     entries = entries-of-book (settlingOf s a .final);
     shut = λ p. rw (ne-eqb (termsAfter (s .terms) a .phase) 1 p);
     whole = λ p. subst (WholeRuns (marketOf (termsAfter (s .terms) a)) (ownOf s a .final)) (sym (open-settled p)) both-runs;
-    unstirred = λ p. subst (λ (l : List Entry). (i : ℕ) (x : Entry) → At l i x → stirring (marketOf (termsAfter (s .terms) a)) l x ≡ false) (left p) (after .unstirred);
+    unstirred = λ p.
+        subst (λ (l : List Entry). (i : ℕ) (x : Entry) → At l i x → stirring (marketOf (termsAfter (s .terms) a)) l x ≡ false) (left p) (after .unstirred);
     uneased = λ p. subst (λ (l : List Entry). (i : ℕ) (x : Entry) → At l i x → easing (marketOf (termsAfter (s .terms) a)) x ≡ false) (left p) (after .uneased);
     stirs-no-more = λ p. subst (λ (l : List Entry). nextStir (marketOf (termsAfter (s .terms) a)) l ≡ stop) (left p) (after .stirs-no-more);
     eases-no-more = λ p. subst (λ (l : List Entry). nextEase (marketOf (termsAfter (s .terms) a)) l ≡ stop) (left p) (after .eases-no-more);

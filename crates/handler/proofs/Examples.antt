@@ -1,6 +1,6 @@
 -- DOCUMENT 01'S CLASS EXAMPLES a to l: one table, one theorem, by computation. "M 1, K 10, call, exempt unless said."
--- The trainee is party 1, a maker, who buys; messages are the packed bytes. "Passes" means: not stopped by that test (docs/DECISIONS), so that each row names what
--- price protection says, 0 where the quote passes, beside the reports.
+-- The trainee is party 1, a maker, who buys; messages are the packed bytes. "Passes" means: not stopped by that test (docs/DECISIONS), so that each row names
+-- what price protection says, 0 where the quote passes, beside the reports.
 -- Assumes nothing.
 use Prim.Native.Nat.{ℕ, _≤_}
 use mathlib.Core.Path.{_≡_, refl, ap, _∙_}
@@ -56,7 +56,8 @@ use Rattle.handler.proofs.Demands.{reportsOf, reports-counted, reports-
 pub data Letter : Type 0 where
   example-a example-b example-c example-d example-e example-f example-g example-h example-i example-j example-k example-l : Letter
 
--- an example: the series before, as its numbers and the entries that rest; the message; what price protection says; the reports; and the entries that rest afterwards
+-- an example: the series before, as its numbers and the entries that rest; the message; what price protection says; the reports; and the entries that rest
+-- afterwards
 pub record Example : Type 0 where
   pub name : Letter
   pub terms : Terms
@@ -290,7 +291,11 @@ expected r = record { sound = true; refusal = 0; barred = r .barred; reports = r
 
 -- THE THEOREM: every row of the table comes out as document 01 says
 pub examples : map outcome table ≡ map expected table
-unfolding without all any pairs scan first still leading runFor ran thingOf unpackOf byKind keen meek reaches nearer mpv onGrid legal noneOrLegal back lastPrice apart allowed rowOf minded upTo shortOf aimDisplay aimWorking stopped figures24 limited24 protection marketable restingPrices atRest stirsAt slides easedTo eases entriesOf bookOf hit hitBoth cost priority bestContra nearest hiddenWithin quoteIn lowest pricedAs soundEntry soundPair soundEntries soundBook nextEase easings nextStir stirrings eased stirred settled cut nextTake chances taken took stopFor rejectedBy entered stopsAtOnce protectionFor rejection arrived soundTerms soundPhase soundSeries refusalOf ownPart termsAfter done
+unfolding without all any pairs scan first still leading runFor ran thingOf unpackOf byKind keen meek reaches nearer mpv onGrid legal noneOrLegal back
+    lastPrice apart allowed rowOf minded upTo shortOf aimDisplay aimWorking stopped figures24 limited24 protection marketable restingPrices atRest stirsAt
+    slides easedTo eases entriesOf bookOf hit hitBoth cost priority bestContra nearest hiddenWithin quoteIn lowest pricedAs soundEntry soundPair soundEntries
+    soundBook nextEase easings nextStir stirrings eased stirred settled cut nextTake chances taken took stopFor rejectedBy entered stopsAtOnce protectionFor
+    rejection arrived soundTerms soundPhase soundSeries refusalOf ownPart termsAfter done
 examples = refl
 
 -- ---- so the handler answers, in any room that is large enough ----

@@ -37,7 +37,7 @@ use Rattle.settling_theory.proofs.Settles.{settles}
 use Rattle.terms.specs.declared.Terms.{Terms}
 use Rattle.terms.specs.Terms.{marketOf}
 use Rattle.arrival.specs.Cancel.{cancelEntry, cancelQuote, sweep}
-use Rattle.arrival.specs.Post.{resting}
+use Rattle.arrival.specs.Post.{asPosted}
 use Rattle.arrival.specs.Arrive.{reported, arrived}
 use Rattle.arrival.proofs.ArriveTells.{arrived-says}
 use Rattle.arrival.proofs.Within.{arrival-within-away}
@@ -66,14 +66,18 @@ module _ (s : Series) (a : Ask) where
   -- ---- the message's own part ----
 
   -- who rests after it
-  own-all : (P : Entry → Type 0) → ((q : ℕ) (x : Entry) → P x → P (lessened q x)) → (enters (a .kind) ≡ true → (left : ℕ) (p : Prices) → P (resting (comer (s .terms .given) a) left p))
+  own-all : (P : Entry → Type 0) → ((q : ℕ) (x : Entry) → P x → P (lessened q x))
+      → (enters (a .kind) ≡ true → (left : ℕ) (p : Prices) → P (asPosted (comer (s .terms .given) a) left p))
       → All P (entriesOf (s .book)) → All P (ownPart (s .terms) a (entriesOf (s .book)) .final)
   unfolding ownPart
   own-all P lessens posts h =
-      cond-either Rested (enters (a .kind)) (arrived t (comer (t .given) a) l) _ (λ q. arrived-all t (comer (t .given) a) l P (λ n x k p. lessens n x p) (posts q) h)
+      cond-either Rested (enters (a .kind)) (arrived t (comer (t .given) a) l) _
+      (λ q. arrived-all t (comer (t .given) a) l P (λ n x k p. lessens n x p) (posts q) h)
       (λ _. cond-either Rested (eqb (a .kind) 7) (cancelEntry (a .party) (a .entry) l) _ (λ _. cut-all 28 l P (entryOf (a .party) (a .entry) l) h)
       (λ _. cond-either Rested (eqb (a .kind) 8) (cancelQuote (a .party) (a .sell) l) _ (λ _. quote-all 28 (a .party) (a .sell) l P h)
-      (λ _. cond-either Rested (eqb (a .kind) 11) (andThen (reported Noted l) (sweep (a .quantity))) (reported Noted l) (λ _. sweep-all (a .quantity) l P h) (λ _. h))))
+      (λ _.
+      cond-either Rested (eqb (a .kind) 11) (andThen (reported Noted l) (sweep (a .quantity))) (reported Noted l) (λ _. sweep-all (a .quantity) l P h)
+      (λ _. h))))
     where
       Rested : Ran (List Entry) Report → Type 0
       Rested x = All P (x .final)
@@ -93,7 +97,8 @@ module _ (s : Series) (a : Ask) where
       Says x = All P (x .records)
 
   -- who takes in it: the arriving entry alone, and no MMALO
-  own-spares : (n : ℕ) → 1 ≤ n → (enters (a .kind) ≡ true → Minding n (comer (s .terms .given) a)) → All (NotTaker n) (ownPart (s .terms) a (entriesOf (s .book)) .records)
+  own-spares : (n : ℕ) → 1 ≤ n → (enters (a .kind) ≡ true → Minding n (comer (s .terms .given) a))
+      → All (NotTaker n) (ownPart (s .terms) a (entriesOf (s .book)) .records)
   own-spares n some m =
       own-says (NotTaker n)
       (λ q. arrived-says t (comer (t .given) a) l (NotTaker n) (record {
@@ -115,7 +120,8 @@ module _ (s : Series) (a : Ask) where
     unfolding done still
     settled-stems =
         let r : List Entry = ownPart t a l .final in
-        cond-either (λ (x : Ran (List Entry) Report). All (Stems r) (x .final)) (eqb (termsAfter t a .phase) 1) (settled (marketOf (termsAfter t a)) r) (still r)
+        cond-either (λ (x : Ran (List Entry) Report). All (Stems r) (x .final)) (eqb (termsAfter t a .phase) 1) (settled (marketOf (termsAfter t a)) r)
+        (still r)
         (λ _. settles (own-sound s a ok) .stems) (λ _. stems-start r)
 
     -- and then it is the new entry, or was there before
@@ -127,8 +133,10 @@ module _ (s : Series) (a : Ask) where
     after : Sound (termsAfter (s .terms) a .m) (termsAfter (s .terms) a .given) (done (s .terms) a (entriesOf (s .book)) .final)
     after = is-sound (termsAfter t a .m) (termsAfter t a .given) (done t a l .final) (step-mpv (terms-legal s a ok .step)) (done-part s a ok .sound)
 
-    -- A DISPLAY NEVER MOVES BACK WHILE ITS QUOTE RESTS: the display of an entry that rests before and after a message is afterwards as aggressive as it was, or more
-    pub display-never-back : (i j : ℕ) (y x : Entry) → At (entriesOf (s .book)) i y → At (done (s .terms) a (entriesOf (s .book)) .final) j x → y .number ≡ x .number
+    -- A DISPLAY NEVER MOVES BACK WHILE ITS QUOTE RESTS: the display of an entry that rests before and after a message is afterwards as aggressive as it was, or
+    -- more
+    pub display-never-back : (i j : ℕ) (y x : Entry) → At (entriesOf (s .book)) i y → At (done (s .terms) a (entriesOf (s .book)) .final) j x
+        → y .number ≡ x .number
         → reaches (y .sell) (display x) (display y) ≡ true
     display-never-back i j y x at there same =
         let u : Stems (ownPart t a l .final) x = all-at (Stems (ownPart t a l .final)) (done t a l .final) j x settled-stems there in
@@ -141,7 +149,8 @@ module _ (s : Series) (a : Ask) where
             let side : x .sell ≡ y .sell = sym (v .sell) ∙ ap (λ (z : Entry). z .sell) was in
             reached (y .sell) (display x) (display y)
             (omega (arith, given-high (given-display x (here-facts after j x there)))) (omega (arith, given-high (given-display y (here-facts so i y at))))
-            (subst (λ (b : Bool). seen b (display y) ≤ seen b (display x)) side (subst (λ (z : Entry). seen (x .sell) (display z) ≤ seen (x .sell) (display x)) was (v .forward)))
+            (subst (λ (b : Bool). seen b (display y) ≤ seen b (display x)) side
+            (subst (λ (z : Entry). seen (x .sell) (display z) ≤ seen (x .sell) (display x)) was (v .forward)))
 
     -- ---- "Letting MMALO take" ----
 
@@ -152,18 +161,20 @@ module _ (s : Series) (a : Ask) where
     spares n some h m =
         let r : List Entry = ownPart t a l .final in
         all-append (NotTaker n) (ownPart t a l .records) (settledIf (termsAfter t a) r .records) (own-spares n some m)
-        (cond-either (λ (x : Ran (List Entry) Report). All (NotTaker n) (x .records)) (eqb (termsAfter t a .phase) 1) (settled (marketOf (termsAfter t a)) r) (still r)
+        (cond-either (λ (x : Ran (List Entry) Report). All (NotTaker n) (x .records)) (eqb (termsAfter t a .phase) 1) (settled (marketOf (termsAfter t a)) r)
+        (still r)
         (λ _. settles (own-sound s a ok) .spared n some (own-all (Minding n) (λ q x z. z) (λ q left p. m q) h)) (λ _. tt))
 
     pub record AddsOnly : Type 0 where
       -- whether it rests when the message comes
-      pub resting : (i : ℕ) (y : Entry) → At (entriesOf (s .book)) i y → minds (y .kind) ≡ true → All (NotTaker (y .number)) (done (s .terms) a (entriesOf (s .book)) .records)
+      pub asPosted : (i : ℕ) (y : Entry) → At (entriesOf (s .book)) i y → minds (y .kind) ≡ true
+          → All (NotTaker (y .number)) (done (s .terms) a (entriesOf (s .book)) .records)
       -- or is what the message brings
       pub arriving : enters (a .kind) ≡ true → minds (a .kind) ≡ true → All (NotTaker (s .terms .given + 1)) (done (s .terms) a (entriesOf (s .book)) .records)
 
     pub adds-only : AddsOnly
     adds-only = record {
-      resting = λ i y at k. spares (y .number) (here-facts so i y at .counted) (minding-all so i y at k)
+      asPosted = λ i y at k. spares (y .number) (here-facts so i y at .counted) (minding-all so i y at k)
           (λ q z. absurd (omega (arith, here-facts so i y at .given, z)));
       arriving = λ q k. spares (t .given + 1) (omega arith) (all-map (λ x f z. absurd (omega (arith, f .given, z))) l (so .entries)) (λ _ _. k);
     }

@@ -28,7 +28,8 @@ use Rattle.arrival.specs.Asks.{Arriving, Faces, Enters}
 use Rattle.series.specs.declared.Series.{Series}
 use Rattle.handler.specs.declared.Ask.{Ask}
 use Rattle.kinds.specs.Kinds.{enters, quotes, makers, carries}
-use Rattle.kinds.proofs.KindLaws.{quote-cancel-makers, quotes-makers, enable-makers, stays-out, no-such, quotes-enter, enters-carries, enters-high, entry-cancel-carries}
+use Rattle.kinds.proofs.KindLaws.{quote-cancel-makers, quotes-makers, enable-makers, stays-out, no-such}
+use Rattle.kinds.proofs.KindLaws.{quotes-enter, enters-carries, enters-high, entry-cancel-carries}
 use Rattle.handler.specs.Refuse.{badParty, isFull, isNowhere, goneAt}
 use Rattle.handler.specs.Accept.{comer, termsAfter}
 use Rattle.handler.specs.Acts.{Acts, facingBy, BlocksFor}
@@ -92,22 +93,70 @@ module _ (t : Terms) (a : Ask) where
   enters-not n h k = no-such enters n (a .kind) (stays-out n h) k
 
   pub terms-enters : enters (a .kind) ≡ true
-      → _≡_ {A = Terms} (record { put = t .put; exempt = t .exempt; m = t .m; k = t .k; strike = t .strike; phase = t .phase; bid = t .bid; offer = t .offer; underlying = t .underlying; given = t .given + 1 }) (termsAfter t a)
+      → _≡_ {A = Terms}
+      (record {
+        put = t .put;
+        exempt = t .exempt;
+        m = t .m;
+        k = t .k;
+        strike = t .strike;
+        phase = t .phase;
+        bid = t .bid;
+        offer = t .offer;
+        underlying = t .underlying;
+        given = t .given + 1;
+      }) (termsAfter t a)
   unfolding termsAfter
   terms-enters k = rw (k, enters-not 9 refl k, enters-not 10 refl k, enters-not 11 refl k)
 
   pub terms-away : a .kind ≡ 9
-      → _≡_ {A = Terms} (record { put = t .put; exempt = t .exempt; m = t .m; k = t .k; strike = t .strike; phase = t .phase; bid = a .price; offer = a .second; underlying = t .underlying; given = t .given }) (termsAfter t a)
+      → _≡_ {A = Terms}
+      (record {
+        put = t .put;
+        exempt = t .exempt;
+        m = t .m;
+        k = t .k;
+        strike = t .strike;
+        phase = t .phase;
+        bid = a .price;
+        offer = a .second;
+        underlying = t .underlying;
+        given = t .given;
+      }) (termsAfter t a)
   unfolding termsAfter
   terms-away k = rw (k, stays-out 9 refl)
 
   pub terms-under : a .kind ≡ 10
-      → _≡_ {A = Terms} (record { put = t .put; exempt = t .exempt; m = t .m; k = t .k; strike = t .strike; phase = t .phase; bid = t .bid; offer = t .offer; underlying = a .price; given = t .given }) (termsAfter t a)
+      → _≡_ {A = Terms}
+      (record {
+        put = t .put;
+        exempt = t .exempt;
+        m = t .m;
+        k = t .k;
+        strike = t .strike;
+        phase = t .phase;
+        bid = t .bid;
+        offer = t .offer;
+        underlying = a .price;
+        given = t .given;
+      }) (termsAfter t a)
   unfolding termsAfter
   terms-under k = rw (k, stays-out 10 refl)
 
   pub terms-phase : a .kind ≡ 11
-      → _≡_ {A = Terms} (record { put = t .put; exempt = t .exempt; m = t .m; k = t .k; strike = t .strike; phase = a .quantity; bid = t .bid; offer = t .offer; underlying = t .underlying; given = t .given }) (termsAfter t a)
+      → _≡_ {A = Terms}
+      (record {
+        put = t .put;
+        exempt = t .exempt;
+        m = t .m;
+        k = t .k;
+        strike = t .strike;
+        phase = a .quantity;
+        bid = t .bid;
+        offer = t .offer;
+        underlying = t .underlying;
+        given = t .given;
+      }) (termsAfter t a)
   unfolding termsAfter
   terms-phase k = rw (k, stays-out 11 refl)
 

@@ -16,7 +16,8 @@ use Rattle.lists.proofs.Bools.{clash, and-left, and-right, cond-zero, cond-eith
 use Rattle.lists.proofs.TestLaws.{all-of, false-any}
 use Rattle.lists.proofs.ChooseLaws.{Tells}
 use Rattle.packing.specs.declared.message.Event.{Event}
-use Rattle.packing.specs.declared.message.Event.the-variants.{Plain, Mmlo, Mmalo, Mmrp, Displayed, Dark, CancelEntry, CancelQuote, Away, Underlying, Phase, Enable}
+use Rattle.packing.specs.declared.message.Event.the-variants.{Plain, Mmlo, Mmalo, Mmrp, Displayed, Dark, CancelEntry}
+use Rattle.packing.specs.declared.message.Event.the-variants.{CancelQuote, Away, Underlying, Phase, Enable}
 use Rattle.book.specs.declared.Entry.{Entry}
 use Rattle.book.specs.Entries.{quoteOf, lastNumber}
 use Rattle.book.specs.Shape.{entriesOf}
@@ -114,11 +115,13 @@ cut-one why party side l h = at (quoteIn party side l) (quote-tells l party side
     at (found i e) c k = omega arith
 
 -- "64 entries rest, not counting the quote this one replaces"
-space-left : (given : ℕ) (l : List Entry) (a : Ask) → length l ≤ 64 → enters (a .kind) ≡ true → isFull l a ≡ false → length (replaced (comer given a) l .final) < 64
+space-left : (given : ℕ) (l : List Entry) (a : Ask) → length l ≤ 64 → enters (a .kind) ≡ true → isFull l a ≡ false
+    → length (replaced (comer given a) l .final) < 64
 unfolding still
 space-left given l a size q h = by (leb 64 (length l)) refl (quotes (a .kind)) refl (any (quoteOf (a .party) (a .sell)) l) refl (rw q at h)
   where
-    by : (full : Bool) → leb 64 (length l) ≡ full → (b : Bool) → quotes (a .kind) ≡ b → (c : Bool) → any (quoteOf (a .party) (a .sell)) l ≡ c → (full && not (b && c)) ≡ false
+    by : (full : Bool) → leb 64 (length l) ≡ full → (b : Bool) → quotes (a .kind) ≡ b → (c : Bool) → any (quoteOf (a .party) (a .sell)) l ≡ c
+        → (full && not (b && c)) ≡ false
         → length ((cond b (cutQuote 27 (a .party) (a .sell) l) (still l)) .final) < 64
     by full u true v true w g = omega (arith, cut-one 27 (a .party) (a .sell) l w)
     by true u true v false w g = clash refl g
@@ -182,18 +185,26 @@ module _ (s : Series) (a : Ask) (ok : Accepted s a) where
     steps = facts .sound .terms .steps;
     strike = facts .sound .terms .strike;
     phase = cond-either (λ (n : ℕ). n ≤ 2) (eqb (a .kind) 11) (a .quantity) (s .terms .phase)
-        (λ q. leb-true (a .quantity) 2 (not-false (leb (a .quantity) 2) (rw (eqb-true (a .kind) 11 q, stays-out 11 refl) at (tests .quantity)))) (λ q. facts .sound .terms .phase);
+        (λ q. leb-true (a .quantity) 2 (not-false (leb (a .quantity) 2) (rw (eqb-true (a .kind) 11 q, stays-out 11 refl) at (tests .quantity))))
+        (λ q. facts .sound .terms .phase);
     bid = cond-either (λ (n : ℕ). NoneOrLegal (s .terms .m) n) (eqb (a .kind) 9) (a .price) (s .terms .bid)
-        (λ q. given-price (s .terms .m) (a .price) (and-left (noneOrLegal (s .terms .m) (a .price)) (noneOrLegal (s .terms .m) (a .second)) (aways q))) (λ q. facts .sound .terms .bid);
+        (λ q. given-price (s .terms .m) (a .price) (and-left (noneOrLegal (s .terms .m) (a .price)) (noneOrLegal (s .terms .m) (a .second)) (aways q)))
+        (λ q. facts .sound .terms .bid);
     offer = cond-either (λ (n : ℕ). NoneOrLegal (s .terms .m) n) (eqb (a .kind) 9) (a .second) (s .terms .offer)
-        (λ q. given-price (s .terms .m) (a .second) (and-right (noneOrLegal (s .terms .m) (a .price)) (noneOrLegal (s .terms .m) (a .second)) (aways q))) (λ q. facts .sound .terms .offer);
+        (λ q. given-price (s .terms .m) (a .second) (and-right (noneOrLegal (s .terms .m) (a .price)) (noneOrLegal (s .terms .m) (a .second)) (aways q)))
+        (λ q. facts .sound .terms .offer);
     underlying = cond-either (λ (n : ℕ). n ≤ topUnderlying) (eqb (a .kind) 10) (a .price) (s .terms .underlying)
-        (λ q. leb-true (a .price) topUnderlying (not-false (leb (a .price) topUnderlying) (rw (eqb-true (a .kind) 10 q, stays-out 10 refl) at (tests .price)))) (λ q. facts .sound .terms .underlying);
+        (λ q. leb-true (a .price) topUnderlying (not-false (leb (a .price) topUnderlying) (rw (eqb-true (a .kind) 10 q, stays-out 10 refl) at (tests .price))))
+        (λ q. facts .sound .terms .underlying);
   }
     where
       aways : eqb (a .kind) 9 ≡ true → (noneOrLegal (s .terms .m) (a .price) && noneOrLegal (s .terms .m) (a .second)) ≡ true
-      aways q = not-false (noneOrLegal (s .terms .m) (a .price) && noneOrLegal (s .terms .m) (a .second)) (rw (eqb-true (a .kind) 9 q, stays-out 9 refl) at (tests .price))
+      aways q =
+          not-false (noneOrLegal (s .terms .m) (a .price) && noneOrLegal (s .terms .m) (a .second))
+          (rw (eqb-true (a .kind) 9 q, stays-out 9 refl) at (tests .price))
 
   pub numbers-few : termsAfter (s .terms) a .given ≤ lastNumber
   unfolding termsAfter
-  numbers-few = cond-either (λ (n : ℕ). n ≤ lastNumber) (enters (a .kind)) (s .terms .given + 1) (s .terms .given) (λ q. omega (arith, enters-fresh q)) (λ q. facts .sound .most)
+  numbers-few =
+      cond-either (λ (n : ℕ). n ≤ lastNumber) (enters (a .kind)) (s .terms .given + 1) (s .terms .given) (λ q. omega (arith, enters-fresh q))
+      (λ q. facts .sound .most)

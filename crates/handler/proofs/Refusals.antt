@@ -97,8 +97,13 @@ module _ (s : Series) (message room : List ℕ) where
   accepted-none h = first-none (table s (unpackOf messages message) room) numbers (sym refusals-in-order ∙ h)
     where
       numbers : All (λ (t : ℕ × Bool). 1 ≤ t .0) (table s (unpackOf messages message) room)
-      numbers =
-          (omega arith, (omega arith, (omega arith, (omega arith, (omega arith, (omega arith, (omega arith, (omega arith, (omega arith, (omega arith, (omega arith, tt)))))))))))
+      numbers = (
+        omega arith,
+        (
+          omega arith,
+          (omega arith, (omega arith, (omega arith, (omega arith, (omega arith, (omega arith, (omega arith, (omega arith, (omega arith, tt))))))))),
+        ),
+      )
 
   -- so a message that no test refuses is accepted: refusing all is shut out
   pub none-accepted : All (λ (t : ℕ × Bool). t .1 ≡ false) (table s (unpackOf messages message) room) → handled s message room .answer .refusal ≡ 0

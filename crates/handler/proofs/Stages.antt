@@ -1,5 +1,5 @@
--- The stages of an accepted message, as the code goes through them: which stage the message's own part is, what settling behind it asks, and that both together are
--- the handler's answer.
+-- The stages of an accepted message, as the code goes through them: which stage the message's own part is, what settling behind it asks, and that both together
+-- are the handler's answer.
 -- Assumes nothing.
 use Prim.Native.Nat.{ℕ, _≤_}
 use mathlib.Core.Path.{_≡_, refl, sym, subst}

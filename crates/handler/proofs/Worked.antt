@@ -1,5 +1,5 @@
--- A WORKED BOOK: one away move makes two entries move, one freeing the other. An MMRP sell works one step in front of its display, at the away bid; an MMALO buy
--- rests one step short of it. The away bid rises onto the sell's display: the sell is eased by one step, which frees the buy to follow by one step.
+-- A WORKED BOOK: one away move makes two entries move, one freeing the other. An MMRP sell works one step in front of its display, at the away bid; an MMALO
+-- buy rests one step short of it. The away bid rises onto the sell's display: the sell is eased by one step, which frees the buy to follow by one step.
 -- Assumes nothing.
 use Prim.Native.Nat.{ℕ}
 use mathlib.Core.Path.{_≡_, refl}
@@ -103,5 +103,9 @@ pub record Worked : Type 0 where
   pub freed : stirring market (bid 219 219 ∷ offer 221 221 ∷ []) (bid 219 219) ≡ true
 
 pub worked : Worked
-unfolding without all any pairs scan first still leading runFor ran thingOf unpackOf byKind keen meek reaches nearer mpv onGrid legal noneOrLegal back lastPrice apart allowed rowOf minded upTo shortOf aimDisplay aimWorking stopped figures24 limited24 protection marketable restingPrices atRest stirsAt slides easedTo eases entriesOf bookOf hit hitBoth cost priority bestContra nearest hiddenWithin quoteIn lowest pricedAs soundEntry soundPair soundEntries soundBook nextEase easings nextStir stirrings eased stirred settled cut nextTake chances taken took stopFor rejectedBy entered stopsAtOnce protectionFor rejection arrived soundTerms soundPhase soundSeries refusalOf ownPart termsAfter done anyStirs
+unfolding without all any pairs scan first still leading runFor ran thingOf unpackOf byKind keen meek reaches nearer mpv onGrid legal noneOrLegal back
+    lastPrice apart allowed rowOf minded upTo shortOf aimDisplay aimWorking stopped figures24 limited24 protection marketable restingPrices atRest stirsAt
+    slides easedTo eases entriesOf bookOf hit hitBoth cost priority bestContra nearest hiddenWithin quoteIn lowest pricedAs soundEntry soundPair soundEntries
+    soundBook nextEase easings nextStir stirrings eased stirred settled cut nextTake chances taken took stopFor rejectedBy entered stopsAtOnce protectionFor
+    rejection arrived soundTerms soundPhase soundSeries refusalOf ownPart termsAfter done anyStirs
 worked = record { sound = refl; settled-before = refl; read = refl; passes = refl; moves = refl; held = refl; freed = refl }

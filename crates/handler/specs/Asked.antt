@@ -5,7 +5,8 @@ use Prim.Native.Nat.{ℕ}
 use mathlib.Core.Bool.{false}
 use Rattle.packing.specs.declared.message.Entering.{Entering}
 use Rattle.packing.specs.declared.message.Event.{Event}
-use Rattle.packing.specs.declared.message.Event.the-variants.{Plain, Mmlo, Mmalo, Mmrp, Displayed, Dark, CancelEntry, CancelQuote, Away, Underlying, Phase, Enable}
+use Rattle.packing.specs.declared.message.Event.the-variants.{Plain, Mmlo, Mmalo, Mmrp, Displayed, Dark, CancelEntry}
+use Rattle.packing.specs.declared.message.Event.the-variants.{CancelQuote, Away, Underlying, Phase, Enable}
 use Rattle.handler.specs.declared.Ask.{Ask}
 
 -- kinds 1 to 6

@@ -1,5 +1,5 @@
--- The refusals that an event can meet, each test by document 01's words, and their order. "Tests on party and the like apply only to kinds that carry the field."
--- Assumes nothing.
+-- The refusals that an event can meet, each test by document 01's words, and their order. "Tests on party and the like apply only to kinds that carry the
+-- field." Assumes nothing.
 use Prim.Native.Nat.{ℕ, _-_}
 use mathlib.Core.Bool.{Bool, true, false, cond, not, _&&_, _||_}
 use mathlib.Core.List.{List, [], _∷_}
@@ -64,7 +64,8 @@ goneAt (At i) = false
 
 abbrev pub isMissing : List Entry → Ask → Bool
 isMissing l a =
-    cond (cancelsEntry (a .kind)) (isNowhere (entryOf (a .party) (a .entry) l)) (cond (cancelsQuote (a .kind)) (isNowhere (quoteIn (a .party) (a .sell) l)) false)
+    cond (cancelsEntry (a .kind)) (isNowhere (entryOf (a .party) (a .entry) l))
+    (cond (cancelsQuote (a .kind)) (isNowhere (quoteIn (a .party) (a .sell) l)) false)
 
 -- the number of the first test of a list that holds, 0 where none does
 abbrev pub firstHolding : List (ℕ × Bool) → ℕ

@@ -139,8 +139,14 @@ answer-fits out at number refusal count room n r b =
 pub answered-counts : (out : List ℕ) (at number refusal count : ℕ) (room : List ℕ) {after : List ℕ} {end : ℕ} → number < 2 ^ 64 → refusal < 2 ^ 32 → Bytes room
     → (end ≡ answerPrinted out at number refusal count room .0) × (after ≡ answerPrinted out at number refusal count room .1)
     → (end ≡ answerPrinted out at number refusal count room .0) × ((after ≡ answerPrinted out at number refusal count room .1) × Counts end after)
-answered-counts out at number refusal count room {after} {end} n r b p =
-    (p .0, (p .1, counts end after (omega (arith, p .0, ap length (p .1), answer-length out at number refusal count room, answer-fits out at number refusal count room n r b))))
+answered-counts out at number refusal count room {after} {end} n r b p = (
+  p .0,
+  (
+    p .1,
+    counts end after
+        (omega (arith, p .0, ap length (p .1), answer-length out at number refusal count room, answer-fits out at number refusal count room n r b)),
+  ),
+)
 
 -- THEOREM. Of an accepted message whose reports stand in the room the lines of just these reports are printed, in their order
 pub answer-reports : (number : ℕ) (room : List ℕ) (rs : List Report) → AllPack rs → 14 * length rs ≤ length room

@@ -43,7 +43,8 @@ pub no-place : (room : List ℕ) (k : ℕ) → length room / 14 ≤ k → stands
 no-place room k h = unpack-short reports (drop (14 * k) room) (rw length-drop (omega arith))
 
 -- the part of the room that is handed to the unpacker
-pub place-part : (room : List ℕ) (k : ℕ) (u : Unpacked) → u ≡ unpacked (unpackOf reports (take (14 * k + 14 - 14 * k) (drop (14 * k) room))) → u ≡ unpacked (standsAt room k)
+pub place-part : (room : List ℕ) (k : ℕ) (u : Unpacked) → u ≡ unpacked (unpackOf reports (take (14 * k + 14 - 14 * k) (drop (14 * k) room)))
+    → u ≡ unpacked (standsAt room k)
 place-part room k u h = h ∙ ap (λ (n : ℕ). unpacked (unpackOf reports (take n (drop (14 * k) room)))) long
   where
     long : 14 * k + 14 - 14 * k ≡ 14

@@ -13,8 +13,8 @@ use Rattle.bits.specs.Fields.{total, join, split, bytes, Bytes, Fit, allFit, eq
 use Rattle.bits.proofs.FieldLaws.{recode, split-fit, length-split}
 use Rattle.bits.proofs.ByteLaws.{fit-bytes, join-take}
 use Rattle.bits.proofs.TestLaws.{both-left, both-right, equal-true, equal-refl, allFit-true, fit-allFit}
-use Rattle.packing.specs.Codec.{Codec, FieldsRead, FieldsWritten, bit, onlyIf, packedAs}
-use Rattle.packing.specs.Codec.{fieldsIn, bytesOf, checked, thingOf, unpackOf, answerOf, packs, packOf}
+use Rattle.packing.specs.Codec.{Codec, FieldsRead, FieldsWritten, bit, onlyIf, packedAs, fieldsIn}
+use Rattle.packing.specs.Codec.{bytesOf, checked, thingOf, unpackOf, answerOf, packs, packOf}
 
 -- a side or a flag can be told from its bit
 pub bit-is : (b : Bool) → eqb (bit b) 1 ≡ b

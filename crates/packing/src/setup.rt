@@ -21,9 +21,6 @@ pub struct Packed {
     pub bytes: [u8; SIZE],
 }
 
-// The highest strike.
-pub const TOP_STRIKE: u32 = 100000;
-
 // How many bytes one has.
 pub const SIZE: usize = 4;
 

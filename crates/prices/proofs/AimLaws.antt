@@ -135,7 +135,8 @@ unfolding aimDisplay aimWorking upTo shortOf
 aimed {m} {l} {a} {c} kind s v hl ha gc = record {
   near-display = bound-keeps (Near m s) s x (back m s x) (shortOf m s a l) nd (λ e. near-back s v (hx .legal e));
   near-working = bound-keeps (Near m s) s x (back m s x) (upTo s a l) nw (λ e. near-back s v (hx .legal e));
-  display-is = seen-shortOf m s x (shortOf m s a l) (omega (arith, nd .high)) ∙ ap (λ (n : ℕ). min n (before m s x)) (seen-shortOf m s a l (omega (arith, hl .high)));
+  display-is =
+      seen-shortOf m s x (shortOf m s a l) (omega (arith, nd .high)) ∙ ap (λ (n : ℕ). min n (before m s x)) (seen-shortOf m s a l (omega (arith, hl .high)));
   working-is = seen-shortOf m s x (upTo s a l) (omega (arith, nw .high)) ∙ ap (λ (n : ℕ). min n (before m s x)) (seen-upTo s a l (omega (arith, hl .high)));
 }
   where

@@ -37,7 +37,9 @@ module _ {m l a d w : ℕ} (s : Bool) (v : Mpv m) (ga : NoneOrLegal m a) (sl : S
   unfolding easedTo
   drops e = record {
     away = la;
-    past = reaches-false s a w (omega (arith, la .high)) (omega (arith, sl .works .high)) (not-true (reaches s a w) (and-right (not (eqb a 0)) (not (reaches s a w)) e));
+    past =
+        reaches-false s a w (omega (arith, la .high)) (omega (arith, sl .works .high))
+        (not-true (reaches s a w) (and-right (not (eqb a 0)) (not (reaches s a w)) e));
     to = rw e;
   }
     where

@@ -109,7 +109,8 @@ told-24-bid g nbo bid h =
     let k : nbo ≡ 0 → ⊥ = eqb-false nbo 0 (not-true (eqb nbo 0) (and-left (not (eqb nbo 0)) _ a)) in
     by (leb nbo 100) refl k (and-right (not (eqb nbo 0)) _ a)
   where
-    by : (b : Bool) → leb nbo 100 ≡ b → (nbo ≡ 0 → ⊥) → atLeast (cond b (record { first = bid; second = nbo + 100 }) (record { first = 2 * (bid - nbo); second = nbo })) ≡ true
+    by : (b : Bool) → leb nbo 100 ≡ b → (nbo ≡ 0 → ⊥)
+        → atLeast (cond b (record { first = bid; second = nbo + 100 }) (record { first = 2 * (bid - nbo); second = nbo })) ≡ true
         → FarBid nbo bid
     by true q k f = record {
       known = positive nbo k;

@@ -88,7 +88,8 @@ module _ {m l a c d w : ℕ} (kind : ℕ) (s : Bool) (v : Mpv m) (ga : NoneOrLeg
   )
 
 -- a contra price that comes closer only lowers the aims: a quote at rest stays at rest
-pub unstirred-stays : {m l a c c′ d w : ℕ} (kind : ℕ) (s : Bool) → Mpv m → NoneOrLegal m a → NoneOrLegal m c → NoneOrLegal m c′ → Slides m s l d w → Eased s a d w
+pub unstirred-stays : {m l a c c′ d w : ℕ} (kind : ℕ) (s : Bool) → Mpv m → NoneOrLegal m a → NoneOrLegal m c → NoneOrLegal m c′ → Slides m s l d w
+    → Eased s a d w
     → faced s c′ ≤ faced s c → seen s w < faced s c′ → stirsAt m kind s l a c d w ≡ false → stirsAt m kind s l a c′ d w ≡ false
 unstirred-stays {m} {l} {a} {c} {c′} {d} {w} kind s v ga gc gd sl ez closer h e =
     rests-unstirred kind s v ga gd sl ez h (record {

@@ -168,6 +168,16 @@ module _ {m l a x d w : ℕ} (s : Bool) (v : Mpv m) (ga : NoneOrLegal m a) (p : 
 pub is-rest : (s : Bool) (d w : ℕ) (p : Prices) → atRest s d w p ≡ true → AtRest s d w p
 unfolding atRest
 is-rest s d w p h = record {
-  display = omega (arith, moved-display s d p, ap (seen s) (eqb-true d (restingPrices s d p .display) (and-left (eqb d (restingPrices s d p .display)) (eqb w (restingPrices s d p .working)) h)));
-  working = omega (arith, moved-working s d p, ap (seen s) (eqb-true w (restingPrices s d p .working) (and-right (eqb d (restingPrices s d p .display)) (eqb w (restingPrices s d p .working)) h)));
+  display =
+      omega (
+        arith,
+        moved-display s d p,
+        ap (seen s) (eqb-true d (restingPrices s d p .display) (and-left (eqb d (restingPrices s d p .display)) (eqb w (restingPrices s d p .working)) h)),
+      );
+  working =
+      omega (
+        arith,
+        moved-working s d p,
+        ap (seen s) (eqb-true w (restingPrices s d p .working) (and-right (eqb d (restingPrices s d p .display)) (eqb w (restingPrices s d p .working)) h)),
+      );
 }

@@ -1,5 +1,5 @@
--- The aims of a quote that slides, for a buy with limit L, away offer A, and C "the lowest working price of any sell in the book, dark included"; a sell is the mirror image.
--- Kinds are numbered as in messages; which of them slide, and which mind C, the table of crate kinds says.
+-- The aims of a quote that slides, for a buy with limit L, away offer A, and C "the lowest working price of any sell in the book, dark included"; a sell is the
+-- mirror image. Kinds are numbered as in messages; which of them slide, and which mind C, the table of crate kinds says.
 -- Assumes nothing.
 use Prim.Native.Nat.{ℕ}
 use mathlib.Core.Bool.{Bool, true, cond}

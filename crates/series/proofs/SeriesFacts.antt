@@ -54,8 +54,10 @@ module _ (m top : ℕ) where
   tests-book : (l : List Entry) → soundEntries m top l ≡ true → length l ≤ 64 → soundBook m top (bookOf l) ≡ true
   unfolding soundBook
   tests-book l h n =
-      and-both (leb (bookOf l .count) 64) (soundEntries m top (entriesOf (bookOf l)) && all unusedEntry (drop (bookOf l .count) (bookOf l .entries))) (fits-64 l n)
-      (and-both (soundEntries m top (entriesOf (bookOf l))) (all unusedEntry (drop (bookOf l .count) (bookOf l .entries))) (rw (entries-of-book l) h) (rest-unused l))
+      and-both (leb (bookOf l .count) 64) (soundEntries m top (entriesOf (bookOf l)) && all unusedEntry (drop (bookOf l .count) (bookOf l .entries)))
+      (fits-64 l n)
+      (and-both (soundEntries m top (entriesOf (bookOf l))) (all unusedEntry (drop (bookOf l .count) (bookOf l .entries))) (rw (entries-of-book l) h)
+      (rest-unused l))
 
 -- ---- the series ----
 
@@ -80,7 +82,8 @@ series-facts s h =
     record { sound = f; step = step-mpv (f .terms .step); market = terms-market (s .terms) (f .terms); entries = b .0; size = b .1 }
 
 -- AND THE OTHER DIRECTION, of a series that holds the entries l
-pub facts-series : (t : Terms) (blocked : List Bool) (l : List Entry) → LegalTerms t → t .given ≤ lastNumber → soundEntries (t .m) (t .given) l ≡ true → length l ≤ 64
+pub facts-series : (t : Terms) (blocked : List Bool) (l : List Entry) → LegalTerms t → t .given ≤ lastNumber → soundEntries (t .m) (t .given) l ≡ true
+    → length l ≤ 64
     → SoundPhase (t .phase) l → soundSeries (record { terms = t; blocked = blocked; book = bookOf l }) ≡ true
 facts-series t blocked l f most e n p = passed (record { terms = t; blocked = blocked; book = bookOf l }) (record {
   terms = facts-terms t f most;

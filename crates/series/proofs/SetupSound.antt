@@ -1,5 +1,5 @@
--- "Setup .. give[s] only sound states": every setup that unpacks gives a sound series; and where none does, the zeros that stand for no series are unsound, so that
--- the handler refuses them.
+-- "Setup .. give[s] only sound states": every setup that unpacks gives a sound series; and where none does, the zeros that stand for no series are unsound, so
+-- that the handler refuses them.
 -- Assumes nothing.
 use Prim.Native.Nat.{ℕ}
 use mathlib.Core.Path.{_≡_, refl, sym, ap, _∙_}

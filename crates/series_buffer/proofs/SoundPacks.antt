@@ -164,7 +164,8 @@ module _ (s : Series) (sound : soundSeries s ≡ true) (places : length (s .book
   entries-pack =
       sym (ap (all (packs entries)) (take-append-drop (s .book .count) (s .book .entries)))
       ∙ true-all (packs entries) (take (s .book .count) (s .book .entries) ++ drop (s .book .count) (s .book .entries))
-      (all-append (λ (e : Entry). packs entries e ≡ true) (take (s .book .count) (s .book .entries)) (drop (s .book .count) (s .book .entries)) resting-pack unused-pack)
+      (all-append (λ (e : Entry). packs entries e ≡ true) (take (s .book .count) (s .book .entries)) (drop (s .book .count) (s .book .entries))
+      resting-pack unused-pack)
 
   -- THEOREM. A sound series, with its 64 places and 16 makers, packs
   pub sound-packs : packsSeries s ≡ true

@@ -71,7 +71,8 @@ module _ (s : Series) (message room : List ℕ) (sound : soundSeries s ≡ true)
 
   judged-so : handled s message room .answer .refusal ≡ judges (unpackOf messages message)
   unfolding judges
-  judged-so = refusals-in-order s message room ∙ early (ltb (length room) roomSize) (soundSeries s) (judges (unpackOf messages message)) (le-ltb _ _ space) sound
+  judged-so =
+      refusals-in-order s message room ∙ early (ltb (length room) roomSize) (soundSeries s) (judges (unpackOf messages message)) (le-ltb _ _ space) sound
     where
       early : (b c : Bool) (n : ℕ) → b ≡ false → c ≡ true → cond b 10 (cond (not c) 11 n) ≡ n
       early b c n h k = rw (h, k) refl
@@ -82,15 +83,20 @@ module _ (s : Series) (message room : List ℕ) (sound : soundSeries s ≡ true)
   event-foretold (some e) = record {
     fault = λ h. first-front (faults (s .terms .m) (askOf e)) (drop 3 (refusals s (askOf e))) h;
     none = λ h n low high k.
-        first-other (drop 3 (refusals s (askOf e))) n
-        (λ q. omega (arith, q, high), (λ q. omega (arith, q, high), (λ q. omega (arith, q, high), (λ q. omega (arith, q, high), (λ q. omega (arith, q, high), tt)))))
+        first-other (drop 3 (refusals s (askOf e))) n (
+          λ q. omega (arith, q, high),
+          (λ q. omega (arith, q, high), (λ q. omega (arith, q, high), (λ q. omega (arith, q, high), (λ q. omega (arith, q, high), tt)))),
+        )
         (λ q. omega (arith, q, low))
-        (sym (first-behind (faults (s .terms .m) (askOf e)) (drop 3 (refusals s (askOf e))) (first-none (faults (s .terms .m) (askOf e)) (omega arith, (omega arith, (omega arith, tt))) h)) ∙ k);
+        (sym
+        (first-behind (faults (s .terms .m) (askOf e)) (drop 3 (refusals s (askOf e)))
+        (first-none (faults (s .terms .m) (askOf e)) (omega arith, (omega arith, (omega arith, tt))) h)) ∙ k);
   }
 
   -- THEOREM. In a sound series, and with room enough, what a check with the series' M answers is the handler's refusal, if that is one of 1 to 4
   pub check-foretells : Foretells (check message (s .terms .m)) (handled s message room .answer .refusal)
-  unfolding soundSeries soundTerms
+  unfolding soundSeries soundTerms check
   check-foretells =
-      subst (λ (n : ℕ). Foretells n (handled s message room .answer .refusal)) (sym (check-read message (s .terms .m) _ (and-left _ _ (and-left _ _ sound)) refl))
+      subst (λ (n : ℕ). Foretells n (handled s message room .answer .refusal))
+      (sym (check-read (unpackOf messages message) (s .terms .m) _ (and-left _ _ (and-left _ _ sound)) refl))
       (subst (λ (n : ℕ). Foretells (faultOf (s .terms .m) (unpackOf messages message)) n) (sym judged-so) (event-foretold (unpackOf messages message)))

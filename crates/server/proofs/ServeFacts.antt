@@ -29,7 +29,7 @@ use Rattle.arrival.specs.Arrive.{blocks}
 use Rattle.handler.specs.Asked.{askOf}
 use Rattle.kinds.specs.Kinds.{quotes}
 use Rattle.handler.specs.Accept.{comer, blockedAfter, seriesAfter}
-use Rattle.handler.specs.Handle.{Handled, handled}
+use Rattle.handler.specs.Handle.{Handled, handled, handledAs}
 use Rattle.handler.proofs.Ways.{accepting, handled-accepted}
 use Rattle.handler.proofs.Passed.{accepts}
 use Rattle.handler.proofs.Accepted.{done-part, after-sound}
@@ -52,7 +52,8 @@ pub refused-keeps : (state message room : List ℕ) → Bytes state → (serve s
 unfolding serve serveAs handled
 refused-keeps state message room b h = by (ltb (length room) roomSize) (unpackSeries state) refl h
   where
-    by : (c : Bool) (o : Option Series) → unpackSeries state ≡ o → ((cond c (unserved 10 state room) (serveIn state (unpackOf messages message) room o)) .refusal ≡ 0 → ⊥)
+    by : (c : Bool) (o : Option Series) → unpackSeries state ≡ o
+        → ((cond c (unserved 10 state room) (serveIn state (unpackOf messages message) room o)) .refusal ≡ 0 → ⊥)
         → Kept state room (cond c (unserved 10 state room) (serveIn state (unpackOf messages message) room o))
     by true o q k = record { count = refl; buffer = refl; reports = refl }
     by false none q k = record { count = refl; buffer = refl; reports = refl }
@@ -69,7 +70,8 @@ pub unsound-11 : (state message room : List ℕ) → roomSize ≤ length room �
     → serve state message room .refusal ≡ 11
 unfolding serve serveAs handledAs
 unsound-11 state message room space damaged =
-    ap (λ (c : Bool). (cond c (unserved 10 state room) (serveIn state (unpackOf messages message) room (unpackSeries state))) .refusal) (le-ltb (length room) roomSize space)
+    ap (λ (c : Bool). (cond c (unserved 10 state room) (serveIn state (unpackOf messages message) room (unpackSeries state))) .refusal)
+    (le-ltb (length room) roomSize space)
     ∙ by (unpackSeries state) refl
   where
     by : (o : Option Series) → unpackSeries state ≡ o → serveIn state (unpackOf messages message) room o .refusal ≡ 11
@@ -94,7 +96,8 @@ makers-after : (s : Series) (a : Ask) → length (seriesAfter s a .blocked) ≡ 
 unfolding blockedAfter
 makers-after s a = by (eqb (a .kind) 12) (quotes (a .kind) && blocks (s .terms) (comer (s .terms .given) a) (entriesOf (s .book)))
   where
-    by : (b c : Bool) → length (cond b (set (s .blocked) (a .party - 1) false) (cond c (set (s .blocked) (a .party - 1) true) (s .blocked))) ≡ length (s .blocked)
+    by : (b c : Bool)
+        → length (cond b (set (s .blocked) (a .party - 1) false) (cond c (set (s .blocked) (a .party - 1) true) (s .blocked))) ≡ length (s .blocked)
     by true c = length-set (s .blocked) (a .party - 1) false
     by false true = length-set (s .blocked) (a .party - 1) true
     by false false = refl
@@ -117,7 +120,8 @@ pub accepted-holds : (state message room : List ℕ) → Bytes state → serve s
 unfolding serve serveAs packSeries handled
 accepted-holds state message room b h = by (ltb (length room) roomSize) (unpackSeries state) refl h
   where
-    by : (c : Bool) (o : Option Series) → unpackSeries state ≡ o → (cond c (unserved 10 state room) (serveIn state (unpackOf messages message) room o)) .refusal ≡ 0
+    by : (c : Bool) (o : Option Series) → unpackSeries state ≡ o
+        → (cond c (unserved 10 state room) (serveIn state (unpackOf messages message) room o)) .refusal ≡ 0
         → AcceptedIn state message (cond c (unserved 10 state room) (serveIn state (unpackOf messages message) room o))
     by true o q z = absurd (omega (arith, z))
     by false none q z = absurd (omega (arith, z))

@@ -47,7 +47,12 @@ state-long state s h = by (eqb (length state) 1564) refl
   where
     by : (b : Bool) → eqb (length state) 1564 ≡ b → length state ≡ 1564
     by true q = eqb-true (length state) 1564 q
-    by false q = absurd (let n = other-length state (λ e. let f = eq-eqb (length state) 1564 e in let z : true ≡ false = sym f ∙ q in let w : _≡_ {A = ℕ} 0 1 = cc in omega arith) in let w : _≡_ {A = ℕ} 0 1 = cc in omega arith)
+    by false q =
+        absurd
+        (let n =
+        other-length state
+        (λ e. let f = eq-eqb (length state) 1564 e in let z : true ≡ false = sym f ∙ q in let w : _≡_ {A = ℕ} 0 1 = cc in
+        omega arith) in let w : _≡_ {A = ℕ} 0 1 = cc in omega arith)
 
 -- what packing into the buffer leaves is what it then holds
 pub stored-holds : (state : List ℕ) (s : Series) → length state ≡ 1564 → bufferAfter state s ≡ holding state (packSeries s)
@@ -86,7 +91,8 @@ module _ (state : List ℕ) (event : Option Event) (room : List ℕ) where
       pub serve-refused : (r .refusal ≡ 0 → ⊥) → Bytes state → served (r .refusal) 0 state after ≡ serveAs state event room
       serve-refused h b =
           let kept : Unchanged (u .series) room (inRoom r after) =
-          subst⁻¹ (Unchanged (u .series) room) answer (refusals-keep-as (u .series) event room (λ k. h (ap (λ (x : Handled). x .answer .refusal) answer ∙ k))) in
+          subst⁻¹ (Unchanged (u .series) room) answer
+          (refusals-keep-as (u .series) event room (λ k. h (ap (λ (x : Handled). x .answer .refusal) answer ∙ k))) in
           let same : holding state (packSeries (r .series)) ≡ state =
           ap (λ (s : Series). holding state (packSeries s)) (kept .series) ∙ ap (holding state) (series-pack state (u .series) b held) in
           sym (λ i. served (r .refusal) (kept .count i) (same i) after) ∙ again
@@ -112,28 +118,34 @@ module _ (bytes state : List ℕ) (m : Made) (is : m ≡ opened (unpackOf setups
   setup-refused h =
       sym (ap (setUp state) (was-opened (unpackOf setups bytes) (λ k. h (ap (λ (x : Made). x .refusal) is ∙ k))))
 
-  module _ (accepted : m .refusal ≡ 0) (stored : Bool) (out : List ℕ) (put : stored ≡ isStored state (m .series)) (after : out ≡ bufferAfter state (m .series)) where
-    by-setup : (u : Option Setup) → unpackOf setups bytes ≡ u
-        → (stored ≡ true → _≡_ {A = SetUp} (record { refusal = 0; state = out }) (setUp state u))
-        × (stored ≡ false → _≡_ {A = SetUp} (record { refusal = 11; state = out }) (setUp state u))
-    unfolding isStored
-    by-setup none q =
-        let n : _≡_ {A = ℕ} 0 1 = sym accepted ∙ ap (λ (x : Made). x .refusal) is ∙ ap (λ (u : Option Setup). opened u .refusal) q in
-        absurd (omega (arith, n))
-    by-setup (some s) q =
-        let new : m .series ≡ newSeries s = ap (λ (x : Made). x .series) is ∙ ap (λ (u : Option Setup). opened u .series) q in
-        let fit : packsSeries (newSeries s) ≡ true = new-packs bytes s q in
-        let put′ : stored ≡ (eqb (length state) 1564 && packsSeries (newSeries s)) = put ∙ ap (isStored state) new in
-        let after′ : out ≡ cond stored (seriesBytes (newSeries s)) state = after ∙ ap (bufferAfter state) new ∙ ap (λ (b : Bool). cond b (seriesBytes (newSeries s)) state) (sym put′) in
-        let long : stored ≡ eqb (length state) 1564 = put′ ∙ ap (λ (b : Bool). eqb (length state) 1564 && b) fit ∙ and-true (eqb (length state) 1564) in (
-          (λ t. (λ i. record { refusal = 0; state = (after′ ∙ ap (λ (b : Bool). cond b (seriesBytes (newSeries s)) state) t) i })
-              ∙ sym (ap (λ (b : Bool). cond b (record { refusal = 0; state = seriesBytes (newSeries s) }) (record { refusal = 11; state = state })) (sym long ∙ t))),
-          (λ t. (λ i. record { refusal = 11; state = (after′ ∙ ap (λ (b : Bool). cond b (seriesBytes (newSeries s)) state) t) i })
-              ∙ sym (ap (λ (b : Bool). cond b (record { refusal = 0; state = seriesBytes (newSeries s) }) (record { refusal = 11; state = state })) (sym long ∙ t))),
-        )
+  module _ (accepted : m .refusal ≡ 0) (stored : Bool) (out : List ℕ) (put : stored ≡ isStored state (m .series)) (after : out ≡ bufferAfter state (m .series))
+    where
+      by-setup : (u : Option Setup) → unpackOf setups bytes ≡ u
+          → (stored ≡ true → _≡_ {A = SetUp} (record { refusal = 0; state = out }) (setUp state u))
+          × (stored ≡ false → _≡_ {A = SetUp} (record { refusal = 11; state = out }) (setUp state u))
+      unfolding isStored
+      by-setup none q =
+          let n : _≡_ {A = ℕ} 0 1 = sym accepted ∙ ap (λ (x : Made). x .refusal) is ∙ ap (λ (u : Option Setup). opened u .refusal) q in
+          absurd (omega (arith, n))
+      by-setup (some s) q =
+          let new : m .series ≡ newSeries s = ap (λ (x : Made). x .series) is ∙ ap (λ (u : Option Setup). opened u .series) q in
+          let fit : packsSeries (newSeries s) ≡ true = new-packs bytes s q in
+          let put′ : stored ≡ (eqb (length state) 1564 && packsSeries (newSeries s)) = put ∙ ap (isStored state) new in
+          let after′ : out ≡ cond stored (seriesBytes (newSeries s)) state =
+          after ∙ ap (bufferAfter state) new ∙ ap (λ (b : Bool). cond b (seriesBytes (newSeries s)) state) (sym put′) in
+          let long : stored ≡ eqb (length state) 1564 = put′ ∙ ap (λ (b : Bool). eqb (length state) 1564 && b) fit ∙ and-true (eqb (length state) 1564) in (
+            (λ t. (λ i. record { refusal = 0; state = (after′ ∙ ap (λ (b : Bool). cond b (seriesBytes (newSeries s)) state) t) i })
+                ∙ sym
+                (ap (λ (b : Bool). cond b (record { refusal = 0; state = seriesBytes (newSeries s) }) (record { refusal = 11; state = state }))
+                (sym long ∙ t))),
+            (λ t. (λ i. record { refusal = 11; state = (after′ ∙ ap (λ (b : Bool). cond b (seriesBytes (newSeries s)) state) t) i })
+                ∙ sym
+                (ap (λ (b : Bool). cond b (record { refusal = 0; state = seriesBytes (newSeries s) }) (record { refusal = 11; state = state }))
+                (sym long ∙ t))),
+          )
 
-    pub setup-stored : stored ≡ true → _≡_ {A = SetUp} (record { refusal = 0; state = out }) (setUp state (unpackOf setups bytes))
-    setup-stored = by-setup (unpackOf setups bytes) refl .0
+      pub setup-stored : stored ≡ true → _≡_ {A = SetUp} (record { refusal = 0; state = out }) (setUp state (unpackOf setups bytes))
+      setup-stored = by-setup (unpackOf setups bytes) refl .0
 
-    pub setup-kept : stored ≡ false → _≡_ {A = SetUp} (record { refusal = 11; state = out }) (setUp state (unpackOf setups bytes))
-    setup-kept = by-setup (unpackOf setups bytes) refl .1
+      pub setup-kept : stored ≡ false → _≡_ {A = SetUp} (record { refusal = 11; state = out }) (setUp state (unpackOf setups bytes))
+      setup-kept = by-setup (unpackOf setups bytes) refl .1

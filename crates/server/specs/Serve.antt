@@ -52,7 +52,8 @@ abbrev pub serveIn : List ℕ → Option Event → List ℕ → Option Series �
 serveIn state event room none = unserved 11 state room
 serveIn state event room (some s) = packedAgain state (handledAs s event room)
 
--- ONE MESSAGE, by what it unpacks to. 10: "report room under 31,920 bytes"; 11: the buffer holds no series, or an unsound one; then the handler's refusals, in its order
+-- ONE MESSAGE, by what it unpacks to. 10: "report room under 31,920 bytes"; 11: the buffer holds no series, or an unsound one; then the handler's refusals, in
+-- its order
 unfoldable pub serveAs : List ℕ → Option Event → List ℕ → Served
 serveAs state event room = cond (ltb (length room) roomSize) (unserved 10 state room) (serveIn state event room (unpackSeries state))
 

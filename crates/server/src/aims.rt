@@ -16,7 +16,9 @@ pub extern "C" fn waxglimmer_aims(
     display: &mut u32,
     working: &mut u32,
 ) -> u32
-    ensures { λ r. ⌜ _≡_ {A = Answered} (record { refusal = r; display = now (display .exit); working = now (working .exit) }) (aimsAnswered kind side limit away contra m) ⌝ }
+    ensures { λ r.
+        ⌜ _≡_ {A = Answered} (record { refusal = r; display = now (display .exit); working = now (working .exit) })
+        (aimsAnswered kind side limit away contra m) ⌝ }
 {
     let answer = request_aims(kind, side, limit, away, contra, m);
     *display = answer.display;

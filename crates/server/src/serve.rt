@@ -62,7 +62,8 @@ pub extern "C" fn waxglimmer_handle(
     room: &mut [u8],
     count: &mut usize,
 ) -> u32
-    ensures { λ r. ⌜ served r (now (count .exit)) (now (state .exit)) (now (room .exit)) ≡ serve (now (state .entry)) (now (message .entry)) (now (room .entry)) ⌝ }
+    ensures { λ r.
+        ⌜ served r (now (count .exit)) (now (state .exit)) (now (room .exit)) ≡ serve (now (state .entry)) (now (message .entry)) (now (room .entry)) ⌝ }
 {
     let read = unpack(message);
     serve_read(state, read, room, count)
@@ -77,7 +78,9 @@ pub extern "C" fn waxglimmer_handle_at(
     room: &mut [u8],
     count: &mut usize,
 ) -> u32
-    ensures { λ r. ⌜ served r (now (count .exit)) (now (state .exit)) (now (room .exit)) ≡ serve (now (state .entry)) (messageAt (now (run .entry)) at) (now (room .entry)) ⌝ }
+    ensures { λ r.
+        ⌜ served r (now (count .exit)) (now (state .exit)) (now (room .exit))
+        ≡ serve (now (state .entry)) (messageAt (now (run .entry)) at) (now (room .entry)) ⌝ }
 {
     let read = unpack_at(run, at);
     serve_read(state, read, room, count)

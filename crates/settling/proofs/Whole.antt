@@ -40,6 +40,7 @@ module _ {k : Market} {b : Book} {room : List ℕ} {n : ℕ} (h : Settleable k b
       roomy = staged-room s (stirred k) (h .roomy);
     }
 
-    pub settle-ends : {d : Book} {room″ : List ℕ} {n″ : ℕ} → Staged (stirred k (entriesOf c)) room′ n′ d room″ n″ → Staged (settled k (entriesOf b)) room n d room″ n″
+    pub settle-ends : {d : Book} {room″ : List ℕ} {n″ : ℕ} → Staged (stirred k (entriesOf c)) room′ n′ d room″ n″
+        → Staged (settled k (entriesOf b)) room n d room″ n″
     unfolding settled
     settle-ends t = staged-then s (stirred k) t

@@ -58,7 +58,9 @@ fn first_easing(b: Book, market: Market) -> Rank
 // An entry with new prices takes the place of what stands there: it goes last in rank, and is reported.
 pub fn move_to(b: Book, i: usize, e: Entry, room: &mut [u8], n: &mut usize) -> Book
     requires { ⌜ Turn b i (now room) (now n) (Tell·repriced e ∷ []) ⌝ }
-    ensures { λ r. ⌜ Staged (alone (entriesOf b) (go (Tell·repriced e) (requeue i e (entriesOf b)))) (now (room .entry)) (now (n .entry)) r (now (room .exit)) (now (n .exit)) ⌝ }
+    ensures { λ r.
+        ⌜ Staged (alone (entriesOf b) (go (Tell·repriced e) (requeue i e (entriesOf b)))) (now (room .entry)) (now (n .entry)) r (now (room .exit))
+        (now (n .exit)) ⌝ }
 {
     put(room, n, tell_repriced(e));
     requeued(b, i, e)
@@ -76,7 +78,9 @@ fn eased_entry(market: Market, e: Entry) -> Entry
 // The entry at a place is eased.
 fn ease_at(b: Book, market: Market, i: usize, room: &mut [u8], n: &mut usize) -> Book
     requires { ⌜ EaseTurn market b i (now room) (now n) ⌝ }
-    ensures { λ r. ⌜ Staged (alone (entriesOf b) (easeAt market (entriesOf b) (found i (entryIn b i)))) (now (room .entry)) (now (n .entry)) r (now (room .exit)) (now (n .exit)) ⌝ }
+    ensures { λ r.
+        ⌜ Staged (alone (entriesOf b) (easeAt market (entriesOf b) (found i (entryIn b i)))) (now (room .entry)) (now (n .entry)) r (now (room .exit))
+        (now (n .exit)) ⌝ }
 {
     let e = eased_entry(market, b.entries[i]);
     move_to(b, i, e, room, n)

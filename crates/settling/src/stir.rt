@@ -31,7 +31,9 @@ ghost use Rattle.settling.specs.Turns.{entryIn, dealt, tradeStep, Turn, 
 // Two entries trade what both have, at the resting one's price.
 fn deal(b: Book, i: usize, j: usize, room: &mut [u8], n: &mut usize) -> Book
     requires { ⌜ DealTurn b i j (now room) (now n) ⌝ }
-    ensures { λ r. ⌜ Staged (alone (entriesOf b) (go (Tell·traded (entryIn b i) (entryIn b j) (dealt b i j)) (hitBoth i j (dealt b i j) (entriesOf b)))) (now (room .entry)) (now (n .entry)) r (now (room .exit)) (now (n .exit)) ⌝ }
+    ensures { λ r.
+        ⌜ Staged (alone (entriesOf b) (go (Tell·traded (entryIn b i) (entryIn b j) (dealt b i j)) (hitBoth i j (dealt b i j) (entriesOf b))))
+        (now (room .entry)) (now (n .entry)) r (now (room .exit)) (now (n .exit)) ⌝ }
 {
     let taker = b.entries[i];
     let resting = b.entries[j];
@@ -56,7 +58,9 @@ fn trade_at(b: Book, i: usize, room: &mut [u8], n: &mut usize) -> Book
 // The entry at a place trades if it is marketable, and moves to its resting prices if not.
 fn stir_at(b: Book, market: Market, front: Front, i: usize, room: &mut [u8], n: &mut usize) -> Book
     requires { ⌜ StirTurn market front b i (now room) (now n) ⌝ }
-    ensures { λ r. ⌜ Staged (alone (entriesOf b) (stirAt market (entriesOf b) (found i (entryIn b i)))) (now (room .entry)) (now (n .entry)) r (now (room .exit)) (now (n .exit)) ⌝ }
+    ensures { λ r.
+        ⌜ Staged (alone (entriesOf b) (stirAt market (entriesOf b) (found i (entryIn b i)))) (now (room .entry)) (now (n .entry)) r (now (room .exit))
+        (now (n .exit)) ⌝ }
 {
     let e = b.entries[i];
     let kind = kind_of(e);

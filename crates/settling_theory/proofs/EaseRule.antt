@@ -103,7 +103,9 @@ module _ {m l a d w : ℕ} (s : Bool) (v : Mpv m) (ga : NoneOrLegal m a) (sl : S
       la = ga .legal (not-true (eqb a 0) (and-left (not (eqb a 0)) (not (reaches s a w)) q))
 
       past : seen s a < seen s w
-      past = reaches-false s a w (omega (arith, la .high)) (omega (arith, sl .works .high)) (not-true (reaches s a w) (and-right (not (eqb a 0)) (not (reaches s a w)) q))
+      past =
+          reaches-false s a w (omega (arith, la .high)) (omega (arith, sl .works .high))
+          (not-true (reaches s a w) (and-right (not (eqb a 0)) (not (reaches s a w)) q))
 
   pub eased-is-uneased : eases s a d w ≡ false
   unfolding eases easedTo

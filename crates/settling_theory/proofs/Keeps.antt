@@ -111,7 +111,8 @@ stems-through e s u = record {
   forward = further (u .was .sell) (s .was .sell) (u .sell) (s .sell) (u .forward) (s .forward);
 }
   where
-    further : (a b : Bool) → a ≡ b → b ≡ e .sell → seen b (display (u .was)) ≤ seen b (display (s .was)) → seen (e .sell) (display (s .was)) ≤ seen (e .sell) (display e)
+    further : (a b : Bool) → a ≡ b → b ≡ e .sell → seen b (display (u .was)) ≤ seen b (display (s .was))
+        → seen (e .sell) (display (s .was)) ≤ seen (e .sell) (display e)
         → seen (e .sell) (display (u .was)) ≤ seen (e .sell) (display e)
     further a b p q h k = omega (arith, subst (λ (x : Bool). seen x (display (u .was)) ≤ seen x (display (s .was))) q h, k)
 

@@ -39,4 +39,5 @@ module _ {m top : ℕ} (few : top ≤ lastNumber) where
   pub stir-packs : {k : Market} {l t : List Entry} {r : Report} → Sound m top l → Sound m top t → StirStep k l r t → Packs r
   stir-packs so so′ (traded-at {i = i} {j = j} {e = e} {y = y} c h b) = traded-fits e y (here-facts so i e (c .there)) (here-facts so j y (b .chosen .there))
   stir-packs {k} {l} so so′ (moved-at {i = i} {e = e} c h) =
-      repriced-fits e (restPrices k l e) (here-facts so′ (length (without i l)) (priced (restPrices k l e) e) (at-last (without i l) (priced (restPrices k l e) e)))
+      repriced-fits e (restPrices k l e)
+      (here-facts so′ (length (without i l)) (priced (restPrices k l e) e) (at-last (without i l) (priced (restPrices k l e) e)))

@@ -35,10 +35,13 @@ use Rattle.soundness_theory.proofs.MarketFacts.{MarketFacts}
 use Rattle.settling_theory.proofs.EaseRule.{eased-is-uneased}
 
 -- a quote at its resting prices is eased
-rests-eased : {m l a c d w : ℕ} (kind : ℕ) (s : Bool) → Mpv m → NoneOrLegal m a → NoneOrLegal m c → Slides m s l d w → stirsAt m kind s l a c d w ≡ false → Eased s a d w
+rests-eased : {m l a c d w : ℕ} (kind : ℕ) (s : Bool) → Mpv m → NoneOrLegal m a → NoneOrLegal m c → Slides m s l d w → stirsAt m kind s l a c d w ≡ false
+    → Eased s a d w
 unfolding stirsAt atRest
 rests-eased {m} {l} {a} {c} {d} {w} kind s v ga gc sl h = record {
-  eased = omega (arith, moved-display s d p, moved-working s d p, aims-away s v ga p (aim-aimed kind s v ga gc sl), ap (seen s) same-display, ap (seen s) same-working);
+  eased =
+      omega
+      (arith, moved-display s d p, moved-working s d p, aims-away s v ga p (aim-aimed kind s v ga gc sl), ap (seen s) same-display, ap (seen s) same-working);
 }
   where
     p : Prices

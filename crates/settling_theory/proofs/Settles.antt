@@ -1,5 +1,5 @@
--- THE THEOREM OF SETTLING. From sound entries before a sound market settling comes to an end, by itself and in few steps; what it leaves is sound; and nothing in
--- it has a price to move or a trade to make.
+-- THE THEOREM OF SETTLING. From sound entries before a sound market settling comes to an end, by itself and in few steps; what it leaves is sound; and nothing
+-- in it has a price to move or a trade to make.
 -- Assumes nothing.
 use Prim.Native.Nat.{ℕ, _+_, _*_, _≤_}
 use mathlib.Core.Path.{_≡_, refl, ap, _∙_}
@@ -100,7 +100,8 @@ module _ (k : Market) (top : ℕ) (mk : MarketFacts k) (l : List Entry) (so : So
   fit-both few =
       pack-append (eased k l .records) (stirred k (eased k l .final) .records)
       (all-pack (eased k l .records)
-      (complete-tells (Sound (k .m) top) Packs (ease-falls k mk .kept) (λ s r t h e. ease-packs few (ease-falls k mk .kept s r t h e) (ease-step k s e)) so run-one))
+      (complete-tells (Sound (k .m) top) Packs (ease-falls k mk .kept) (λ s r t h e. ease-packs few (ease-falls k mk .kept s r t h e) (ease-step k s e))
+      so run-one))
       (all-pack (stirred k (eased k l .final) .records)
       (complete-tells (Easy k top) Packs (stir-falls k mk .kept)
       (λ s r t h e. stir-packs few (h .sound) (stir-falls k mk .kept s r t h e .sound) (stir-step k s e)) easy-one run-two))

@@ -26,7 +26,8 @@ use Rattle.book.specs.declared.Pricing.the-variants.{Fixed, Dark, Sliding}
 use Rattle.book.specs.Entries.{quote}
 use Rattle.soundness_theory.specs.Sound.{between, pricedAs, soundEntry, distinct, oneQuote, uncrossed, uncrossedAs, soundPair}
 use Rattle.soundness_theory.proofs.SoundFacts.{between-both, both-between}
-use Rattle.soundness.specs.SoundBook.{LegalPrice, SoundSlide, Quote, Slider, InTheDark, AtLimit, Numbered, LegalFigures, SoundPrices, Distinct, OneQuote, Uncrossed}
+use Rattle.soundness.specs.SoundBook.{LegalPrice, SoundSlide, Quote, Slider, InTheDark, AtLimit}
+use Rattle.soundness.specs.SoundBook.{Numbered, LegalFigures, SoundPrices, Distinct, OneQuote, Uncrossed}
 use Rattle.soundness.proofs.ClauseLaws.{clauses-of, of-clauses}
 
 -- ---- prices ----
@@ -154,7 +155,9 @@ facts-entry m given e f = of-clauses m given e (record {
   number = both-between 1 given (e .number) (f .number);
   kind = f .prices .kind;
   party = and-both (between 1 99 (e .party)) (not (quote e) || leb (e .party) 16) (both-between 1 99 (e .party) (f .figures .party)) (quoted (quote e) refl);
-  size = and-both (legal m (e .limit)) (between 1 99999 (e .quantity)) (price-legal m (e .limit) (f .figures .limit)) (both-between 1 99999 (e .quantity) (f .figures .quantity));
+  size =
+      and-both (legal m (e .limit)) (between 1 99999 (e .quantity)) (price-legal m (e .limit) (f .figures .limit))
+      (both-between 1 99999 (e .quantity) (f .figures .quantity));
   price = by (sorts (e .kind));
 })
   where

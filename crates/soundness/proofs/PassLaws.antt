@@ -118,7 +118,8 @@ module _ (m given : ℕ) (l : List Entry) (best : Best) (numbers : List ℕ) (se
             ∙ and-both (pairs oneQuote l) (all (λ (y : Entry). oneQuote y e) l) (g .quotes) (seat-decides l e seats c (g .seated) ∙ ap not vacant);
         top = all-snoc (λ (x : Entry). x .number ≤ better best e .top) l e (all-map (λ x h. omega (arith, high .0)) l (g .top)) (high .1);
         bid = highest-more working l e (best .bid) (g .bid);
-        offer = subst (λ (q : ℕ). Lowest working (l ++ (e ∷ [])) (lowerPrice (best .offer) (sellsAt (e .sell) q))) (held-some (e .working) (works m given e c v))
+        offer =
+            subst (λ (q : ℕ). Lowest working (l ++ (e ∷ [])) (lowerPrice (best .offer) (sellsAt (e .sell) q))) (held-some (e .working) (works m given e c v))
             (lowest-more working l e (best .offer) (g .offer) (works-high m given e c));
         shownbid = highest-more display l e (best .shownbid) (g .shownbid);
         shownoffer = lowest-more display l e (best .shownoffer) (g .shownoffer) (shows-high m given e c);
@@ -181,7 +182,8 @@ pub record Reading (m given : ℕ) (es : List Entry) (n : ℕ) (best : Best) (nu
   pub so-far : Gathered m given (take i es) best numbers seats
 
 pub read-start : (m given : ℕ) (es : List Entry) (n : ℕ)
-    → Reading m given es n (record { top = 0; bid = 0; offer = noOffer; shownbid = 0; shownoffer = noOffer; quoted = false }) (replicate 64 0) (replicate 33 false) 0
+    → Reading m given es n (record { top = 0; bid = 0; offer = noOffer; shownbid = 0; shownoffer = noOffer; quoted = false }) (replicate 64 0)
+    (replicate 33 false) 0
 unfolding all any pairs nearest scan
 read-start m given es n = record {
   within = omega arith;

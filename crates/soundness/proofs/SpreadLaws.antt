@@ -101,7 +101,8 @@ unfolding reading scan all pairs beside
 spread-from [] a p q i = sym (and-true (bestApart p q))
 spread-from (x ∷ l) a p q i =
     spread-from l (a .1) (facing working true p x) (facing working false q x) (i + 1)
-    ∙ rw (apart-next p q (x .working) (a .0) (x .sell), others) (regroup (bestApart p q) (beside p q x) (all (beside p q) l) (all (uncrossed x) l) (pairs uncrossed l))
+    ∙ rw (apart-next p q (x .working) (a .0) (x .sell), others)
+    (regroup (bestApart p q) (beside p q x) (all (beside p q) l) (all (uncrossed x) l) (pairs uncrossed l))
   where
     others : all (beside (facing working true p x) (facing working false q x)) l ≡ (all (beside p q) l && all (uncrossed x) l)
     others =

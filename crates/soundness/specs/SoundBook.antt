@@ -36,8 +36,8 @@ pub record SoundSlide (m : ℕ) (s : Bool) (limit display working : ℕ) : Type 
   pub near : AtMost m s working display
   pub inside : Aggressive s limit working
 
--- the kinds, by the table of crate kinds: quotes; and by what is asked of their prices, those that slide, MMALO and MMRP, those that are dark, and the others, which
--- are plain, MMLO and displayed orders
+-- the kinds, by the table of crate kinds: quotes; and by what is asked of their prices, those that slide, MMALO and MMRP, those that are dark, and the others,
+-- which are plain, MMLO and displayed orders
 abbrev pub Quote : Entry → Type 0
 Quote e = quotes (e .kind) ≡ true
 

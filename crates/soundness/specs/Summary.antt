@@ -1,5 +1,5 @@
--- What one pass over a book answers: whether the book is sound, and what the pass has seen on its way: best prices, displays, who has a quote. The handler asks for
--- them where document 01 speaks of C, of NBO and NBB, and of the quote that another replaces.
+-- What one pass over a book answers: whether the book is sound, and what the pass has seen on its way: best prices, displays, who has a quote. The handler asks
+-- for them where document 01 speaks of C, of NBO and NBB, and of the quote that another replaces.
 -- No rule of document 01 stands here, only words for contracts.
 -- Assumes nothing.
 use Prim.Native.Nat.{ℕ, _+_, _≤_}

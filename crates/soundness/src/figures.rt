@@ -10,7 +10,8 @@ ghost use mathlib.Core.Bool.{false, not, _||_};
 ghost use lib.ListN.{length, take, getD};
 ghost use lib.Dec.{eqb, ltb};
 ghost use Rattle.lists.specs.Tests.{any};
-ghost use Rattle.soundness.specs.Summary.{seat, seatOf, higherPrice, lowerPrice, buysAt, sellsAt, offerKey, offerOf, better, bestApart, unsound, faced, facedShown};
+ghost use Rattle.soundness.specs.Summary.{seat, seatOf, higherPrice, lowerPrice, buysAt, sellsAt, offerKey};
+ghost use Rattle.soundness.specs.Summary.{offerOf, better, bestApart, unsound, faced, facedShown};
 
 // Above all prices: while the entries are read, it stands for no offer.
 pub const NO_OFFER: u32 = 1000000;

@@ -54,7 +54,8 @@ front-high s (e ∷ l) = more (against s e) (front-high s l)
 
 front-below : (s : Bool) (l : List Entry) (i : ℕ) (y : Entry) → At l i y → against s y ≡ true → front s l ≤ seen s (y .working)
 front-below s [] i y h a = absurd h
-front-below s (x ∷ l) zero y h a = subst (λ (z : Entry). closer (against s x) (seen s (x .working)) (front s l) ≤ seen s (z .working)) h (low (against s x) (ap (against s) h ∙ a))
+front-below s (x ∷ l) zero y h a =
+    subst (λ (z : Entry). closer (against s x) (seen s (x .working)) (front s l) ≤ seen s (z .working)) h (low (against s x) (ap (against s) h ∙ a))
   where
     low : (b : Bool) → b ≡ true → closer b (seen s (x .working)) (front s l) ≤ seen s (x .working)
     low true e = omega arith
@@ -102,7 +103,8 @@ module _ {m top : ℕ} {l : List Entry} (s : Bool) (so : Sound m top l) where
             arith,
             ap (seen s) (o .asks),
             front-below s l (o .place) (o .entry) (o .there) (o .faces),
-            front-above s (seen s (contra s l)) l (omega (arith, seen-high s (contra s l) (omega (arith, o .asks, works (o .place) (o .entry) (o .there) .high))))
+            front-above s (seen s (contra s l)) l
+                (omega (arith, seen-high s (contra s l) (omega (arith, o .asks, works (o .place) (o .entry) (o .there) .high))))
                 (all-of (λ (z : Entry). against s z ≡ true → seen s (contra s l) ≤ seen s (z .working)) l
                 (λ k z h f. seen-good s (contra s l) (z .working) (contra-price-tells s l .best (z .working) (offers k z h f)))),
           )
@@ -189,7 +191,8 @@ best-front {s = s} {l = l} {j = j} {y = y} so c =
     ∙ omega (
       arith,
       front-below s l j y (c .chosen .there) (and-left (against s y) true (c .chosen .passes)),
-      front-above s (seen s (y .working)) l (omega (arith, seen-high s (y .working) (omega (arith, all-at (EntryFacts _ _) l j y (so .entries) (c .chosen .there) .works .high))))
+      front-above s (seen s (y .working)) l
+          (omega (arith, seen-high s (y .working) (omega (arith, all-at (EntryFacts _ _) l j y (so .entries) (c .chosen .there) .works .high))))
           (all-of (λ (z : Entry). against s z ≡ true → seen s (y .working) ≤ seen s (z .working)) l
           (λ k z h a. omega (arith, c .price k z h (and-both (against s z) true a refl), cost-is s (y .working), cost-is s (z .working)))),
     )

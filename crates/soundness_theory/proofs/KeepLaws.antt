@@ -199,7 +199,8 @@ pub sound-both : {m top : ℕ} {l : List Entry} → Sound m top l → (i j q : �
 sound-both {m} {top} {l} so i j q = both-either (Sound m top) i j q l (sound-hit (sound-hit so j q) i q) (sound-hit (sound-hit so i q) j q)
 
 -- who is short of what its side faces is clear of all
-pub short-clear : {m top : ℕ} {l : List Entry} → Sound m top l → (e : Entry) → seen (e .sell) (e .working) < faced (e .sell) (contra (e .sell) l) → All (Clear e) l
+pub short-clear : {m top : ℕ} {l : List Entry} → Sound m top l → (e : Entry) → seen (e .sell) (e .working) < faced (e .sell) (contra (e .sell) l)
+    → All (Clear e) l
 short-clear {l = l} so e h = front-clear e l (rw (← front-is (e .sell) so) h)
 
 -- AN ENTRY TAKES OTHER PRICES, sound ones short of what it faces

@@ -32,5 +32,7 @@ market-facts k h = record { step = is-mpv (k .m) (and-left (mpv (k .m)) (noneOrL
 -- what a caller has seen to, as facts
 pub sound-for : {k : Market} {l : List Entry} → (s : SoundFor k l) → MarketFacts k × Sound (k .m) (s .top) l
 unfolding soundMarket
-sound-for {k} {l} s =
-    (market-facts k (s .market), is-sound (k .m) (s .top) l (and-left (mpv (k .m)) (noneOrLegal (k .m) (k .bid) && noneOrLegal (k .m) (k .offer)) (s .market)) (s .entries))
+sound-for {k} {l} s = (
+  market-facts k (s .market),
+  is-sound (k .m) (s .top) l (and-left (mpv (k .m)) (noneOrLegal (k .m) (k .bid) && noneOrLegal (k .m) (k .offer)) (s .market)) (s .entries),
+)

@@ -20,7 +20,8 @@ use Rattle.book.specs.declared.Entry.{Entry}
 use Rattle.book.specs.declared.Pricing.{Pricing}
 use Rattle.book.specs.declared.Pricing.the-variants.{Fixed, Dark, Sliding}
 use Rattle.book.specs.Entries.{quote}
-use Rattle.soundness_theory.specs.Sound.{between, numbered, kinded, partied, sized, pricedAs, pricedWell, soundEntry, distinct, oneQuote, uncrossedAs, uncrossed, soundPair, soundEntries}
+use Rattle.soundness_theory.specs.Sound.{between, numbered, kinded, partied, sized, pricedAs, pricedWell, soundEntry}
+use Rattle.soundness_theory.specs.Sound.{distinct, oneQuote, uncrossedAs, uncrossed, soundPair, soundEntries}
 use Rattle.soundness_theory.proofs.Facts.{PricedAs, EntryFacts, PairFacts, EachTwo, Sound}
 
 -- from low to high

@@ -19,7 +19,8 @@ use Rattle.book.proofs.ShapeLaws.{book-of-entries}
 use Rattle.telling.specs.Stage.{Roomy, Staged, alone}
 use Rattle.telling.proofs.StageLaws.{roomy-step, staged-step, staged-list}
 
-pub record Going {S : Type 0} (step : S → Step S Report) (measure : S → ℕ) (Ok : S → Type 0) (s₀ : S) (room₀ : List ℕ) (n₀ : ℕ) (s : S) (room : List ℕ) (n : ℕ) : Type 0 where
+pub record Going {S : Type 0} (step : S → Step S Report) (measure : S → ℕ) (Ok : S → Type 0) (s₀ : S) (room₀ : List ℕ) (n₀ : ℕ) (s : S) (room : List ℕ)
+    (n : ℕ) : Type 0 where
   pub ok : Ok s
   pub final : ran step measure s .final ≡ ran step measure s₀ .final
   pub bytes : written room n (ran step measure s .records) ≡ written room₀ n₀ (ran step measure s₀ .records)

@@ -19,7 +19,8 @@ use Rattle.telling.proofs.PackLaws.{pack-left, pack-right}
 
 -- ---- the same by another name ----
 
-pub staged-as : {x y : Ran (List Entry) Report} {room room′ : List ℕ} {n n′ : ℕ} {after : Book} → x ≡ y → Staged x room n after room′ n′ → Staged y room n after room′ n′
+pub staged-as : {x y : Ran (List Entry) Report} {room room′ : List ℕ} {n n′ : ℕ} {after : Book} → x ≡ y → Staged x room n after room′ n′
+    → Staged y room n after room′ n′
 staged-as {x} {y} {room} {room′} {n} {n′} {after} e s = subst (λ (z : Ran (List Entry) Report). Staged z room n after room′ n′) e s
 
 pub roomy-as : {rs ss : List Report} {room : List ℕ} {n : ℕ} → rs ≡ ss → Roomy room n rs → Roomy room n ss
@@ -94,4 +95,5 @@ module _ {x : Ran (List Entry) Report} {room : List ℕ} {n : ℕ} {after : Book
   -- and finds the room it needs
   pub staged-room : (f : List Entry → Ran (List Entry) Report) → Roomy room n (andThen x f .records) → Roomy room′ n′ (f (entriesOf after) .records)
   staged-room f r =
-      subst (λ (l : List Entry). Roomy room′ n′ (f l .records)) (sym staged-list) (roomy-then (x .records) (f (x .final) .records) r room′ n′ (s .bytes) (s .count))
+      subst (λ (l : List Entry). Roomy room′ n′ (f l .records)) (sym staged-list)
+      (roomy-then (x .records) (f (x .final) .records) r room′ n′ (s .bytes) (s .count))

@@ -9,13 +9,19 @@ sub-if1 : tie.Need-sub-if1
 sub-if1 c = search needs
 
 returns : tie.Need-returns
-returns c = let a = c .before .args in sym (goes-not (a .long) (a .at) (a .size) (a .used) (omega arith))
+returns c =
+    let start : tie.Start = search in
+    let a = start .args in
+    sym (goes-not (a .long) (a .at) (a .size) (a .used) (omega arith))
 
 sub-result : tie.Need-sub-result
 sub-result c = search needs
 
 returns-2 : tie.Need-returns-2
-returns-2 c = let a = c .before .args in room-left (a .size) (a .used) (search needs) ∙ sym (goes-if (a .long) (a .at) (a .size) (a .used) (omega arith))
+returns-2 c =
+    let start : tie.Start = search in
+    let a = start .args in
+    room-left (a .size) (a .used) (search needs) ∙ sym (goes-if (a .long) (a .at) (a .size) (a .used) (omega arith))
 
 pub is-next-spec : {M : Type 1} → statement M
 is-next-spec = tie.close (tie.spec sub-if1 returns sub-result returns-2)

@@ -23,8 +23,10 @@ handle-at-requires c κs = search needs
 
 end-of-requires : tie.Need-end-of-requires
 end-of-requires c κs =
-    let a = c .before .before .before .before .before .before .args in
-    let e = c .before .before .handle-at .ensures ∙ lent (a .series) (a .run .now) (a .at) (a .out .now) (a .used) (search needs) in
+    let at-handle-at : tie.After-handle-at = search in
+    let start : tie.Start = search in
+    let a = start .args in
+    let e = at-handle-at .handle-at .ensures ∙ lent (a .series) (a .run .now) (a .at) (a .out .now) (a .used) (search needs) in
     (le-rw (ap (λ (h : Handled). h .answer .count) e) (count-few (a .series) (messageAt (a .run .now) (a .at)) (drop (a .used) (a .out .now))), search needs)
 
 same-length : tie.Need-same-length
@@ -32,11 +34,14 @@ same-length c = search needs
 
 returns : tie.Need-returns
 returns c =
-    let a = c .before .before .before .before .before .before .before .before .args in
-    let e = c .before .before .before .before .handle-at .ensures ∙ lent (a .series) (a .run .now) (a .at) (a .out .now) (a .used) (search needs) in
+    let at-end-of : tie.After-end-of = search in
+    let at-handle-at : tie.After-handle-at = search in
+    let start : tie.Start = search in
+    let a = start .args in
+    let e = at-handle-at .handle-at .ensures ∙ lent (a .series) (a .run .now) (a .at) (a .out .now) (a .used) (search needs) in
     record {
       series = ap (λ (h : Handled). h .answer .series) e;
-      end = c .before .end-of .ensures ∙ ap (λ (h : Handled). a .used + 14 * h .answer .count) e;
+      end = at-end-of .end-of .ensures ∙ ap (λ (h : Handled). a .used + 14 * h .answer .count) e;
       room = part-back (a .out .now) _ (a .used) (search needs) ∙ ap (λ (h : Handled). take (a .used) (a .out .now) ++ h .room) e;
     }
 

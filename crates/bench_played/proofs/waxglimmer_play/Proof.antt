@@ -17,8 +17,11 @@ open-series-requires c κs = search needs
 
 returns : tie.Need-returns
 returns c =
-    let a = c .before .before .before .before .before .before .args in
-    plays-nothing (unpackOf setups (a .setup .now)) (a .run .now) (a .out .now) (λ z. c .if1 .taken (ap (λ (m : Made). m .refusal) (c .before .before .open-series .ensures) ∙ z))
+    let at-open-series : tie.After-open-series = search in
+    let start : tie.Start = search in
+    let a = start .args in
+    plays-nothing (unpackOf setups (a .setup .now)) (a .run .now) (a .out .now)
+    (λ z. c .if1 .taken (ap (λ (m : Made). m .refusal) (at-open-series .open-series .ensures) ∙ z))
 
 play-requires : tie.Need-play-requires
 play-requires c κs = search needs
@@ -28,11 +31,17 @@ same-length c = search needs
 
 returns-2 : tie.Need-returns-2
 returns-2 c =
-    let a = c .before .before .before .before .before .before .before .before .before .before .before .args in
+    let at-play : tie.After-play = search in
+    let at-if1 : tie.Else1 = search in
+    let at-open-series : tie.After-open-series = search in
+    let start : tie.Start = search in
+    let a = start .args in
     let u : Option Setup = unpackOf setups (a .setup .now) in
-    let e = c .before .before .before .before .before .before .before .open-series .ensures in
-    let same : played _ (a .run .now) (a .out .now) ≡ playedBy u (a .run .now) (a .out .now) = ap (λ (m : Made). played (m .series) (a .run .now) (a .out .now)) e ∙ plays-series u (a .run .now) (a .out .now) (sym (ap (λ (m : Made). m .refusal) e) ∙ c .before .before .before .before .before .if1 .left) in
-    (c .before .before .play .ensures .0 ∙ ap (λ (x : ℕ × List ℕ). x .0) same, c .before .before .play .ensures .1 ∙ ap (λ (x : ℕ × List ℕ). x .1) same)
+    let e = at-open-series .open-series .ensures in
+    let same : played _ (a .run .now) (a .out .now) ≡ playedBy u (a .run .now) (a .out .now) =
+    ap (λ (m : Made). played (m .series) (a .run .now) (a .out .now)) e
+    ∙ plays-series u (a .run .now) (a .out .now) (sym (ap (λ (m : Made). m .refusal) e) ∙ at-if1 .if1 .left) in
+    (at-play .play .ensures .0 ∙ ap (λ (x : ℕ × List ℕ). x .0) same, at-play .play .ensures .1 ∙ ap (λ (x : ℕ × List ℕ). x .1) same)
 
 pub waxglimmer-play-spec : {M : Type 1} → statement M
 waxglimmer-play-spec =

@@ -8,7 +8,8 @@ use Rattle.session.proofs.run.Tie as tie
 
 abbrev Inv-loop : tie.InvT-loop
 Inv-loop input₀ first count out₀ room₀ series₀ number₀ at₀ held₀ used₀ input out room series number at held used =
-    (number ≤ 1000000000000000000) × (at ≤ held) × (held ≤ length input) × (length input ≡ length input₀) × (length room ≡ roomSize) × (used ≤ length out) × (length out ≡ length out₀)
+    (number ≤ 1000000000000000000) × (at ≤ held) × (held ≤ length input) × (length input ≡ length input₀) × (length room ≡ roomSize) × (used ≤ length out)
+    × (length out ≡ length out₀)
 
 abbrev μ-loop : tie.MeasureT-loop
 μ-loop input₀ first count out₀ room₀ series₀ number₀ at₀ held₀ used₀ input out room series number at held used = 1000000000000000000 - number

@@ -9,7 +9,7 @@ broken-requires : tie.Need-broken-requires
 broken-requires c κs = search needs
 
 returns : tie.Need-returns
-returns c = turned-down (too-many _ _ _ (c .before .if1 .taken)) (c .broken .ensures)
+returns c = let at-if1 : tie.Then1 = search in turned-down (too-many _ _ _ (at-if1 .if1 .taken)) (c .broken .ensures)
 
 is-mpv-requires : tie.Need-is-mpv-requires
 is-mpv-requires c κs = search needs
@@ -18,7 +18,10 @@ broken-requires-2 : tie.Need-broken-requires-2
 broken-requires-2 c κs = search needs
 
 returns-2 : tie.Need-returns-2
-returns-2 c = turned-down (no-step _ _ _ (sym (c .before .before .is-mpv .ensures) ∙ not-true (c .before .before .is-mpv .result) (c .before .if2 .taken))) (c .broken2 .ensures)
+returns-2 c =
+    let at-if2 : tie.Then2 = search in
+    let at-is-mpv : tie.After-is-mpv = search in
+    turned-down (no-step _ _ _ (sym (at-is-mpv .is-mpv .ensures) ∙ not-true (at-is-mpv .is-mpv .result) (at-if2 .if2 .taken))) (c .broken2 .ensures)
 
 is-rest-unused-requires : tie.Need-is-rest-unused-requires
 is-rest-unused-requires c κs = search needs
@@ -27,13 +30,36 @@ broken-requires-3 : tie.Need-broken-requires-3
 broken-requires-3 c κs = search needs
 
 returns-3 : tie.Need-returns-3
-returns-3 c = turned-down (leftover _ _ _ (sym (c .before .before .is-rest-unused .ensures .0) ∙ not-true (c .before .before .is-rest-unused .result) (c .before .if3 .taken))) (c .broken3 .ensures)
+returns-3 c =
+    let at-if3 : tie.Then3 = search in
+    let at-is-rest-unused : tie.After-is-rest-unused = search in
+    turned-down
+    (leftover _ _ _ (sym (at-is-rest-unused .is-rest-unused .ensures .0) ∙ not-true (at-is-rest-unused .is-rest-unused .result) (at-if3 .if3 .taken)))
+    (c .broken3 .ensures)
 
 check-resting-requires : tie.Need-check-resting-requires
-check-resting-requires c κs = record { step = (sym (c .before .before .before .is-mpv .ensures) ∙ not-false (c .before .before .before .is-mpv .result) (c .before .before .if2 .left)); few = c .before .before .before .before .if1 .left; places = c .before .is-rest-unused .ensures .1 }
+check-resting-requires c κs =
+    let at-is-rest-unused : tie.After-is-rest-unused = search in
+    let at-if2 : tie.Else2 = search in
+    let at-is-mpv : tie.After-is-mpv = search in
+    let at-if1 : tie.Else1 = search in
+    record {
+      step = (sym (at-is-mpv .is-mpv .ensures) ∙ not-false (at-is-mpv .is-mpv .result) (at-if2 .if2 .left));
+      few = at-if1 .if1 .left;
+      places = at-is-rest-unused .is-rest-unused .ensures .1;
+    }
 
 returns-4 : tie.Need-returns-4
-returns-4 c = judged (sym (c .before .before .before .before .is-mpv .ensures) ∙ not-false (c .before .before .before .before .is-mpv .result) (c .before .before .before .if2 .left)) (c .before .before .before .before .before .if1 .left) (c .before .before .is-rest-unused .ensures .1) (sym (c .before .before .is-rest-unused .ensures .0) ∙ not-false (c .before .before .is-rest-unused .result) (c .before .if3 .left)) (c .check-resting .ensures)
+returns-4 c =
+    let at-if3 : tie.Else3 = search in
+    let at-is-rest-unused : tie.After-is-rest-unused = search in
+    let at-if2 : tie.Else2 = search in
+    let at-is-mpv : tie.After-is-mpv = search in
+    let at-if1 : tie.Else1 = search in
+    judged (sym (at-is-mpv .is-mpv .ensures) ∙ not-false (at-is-mpv .is-mpv .result) (at-if2 .if2 .left)) (at-if1 .if1 .left)
+    (at-is-rest-unused .is-rest-unused .ensures .1)
+    (sym (at-is-rest-unused .is-rest-unused .ensures .0) ∙ not-false (at-is-rest-unused .is-rest-unused .result) (at-if3 .if3 .left))
+    (c .check-resting .ensures)
 
 pub check-book-spec : {M : Type 1} → statement M
 check-book-spec =

@@ -21,7 +21,10 @@ cast-b : tie.Need-cast-b Inv-loop μ-loop
 cast-b c = search needs
 
 loop-holds : tie.Need-loop-holds Inv-loop μ-loop
-loop-holds c = (omega arith, read-none (c .before .before .before .args .bytes .now) (c .before .empty .result) (c .number-at .result) (c .before .empty .ensures) (c .number-at .ensures))
+loop-holds c =
+    let at-empty : tie.After-empty Inv-loop μ-loop = search in
+    let start : tie.Start Inv-loop μ-loop = search in
+    (omega arith, read-none (start .args .bytes .now) (at-empty .empty .result) (c .number-at .result) (at-empty .empty .ensures) (c .number-at .ensures))
 
 mul-entry-at : tie.Need-mul-entry-at Inv-loop μ-loop
 mul-entry-at c = search needs
@@ -45,10 +48,17 @@ loop-less : tie.Need-loop-less Inv-loop μ-loop
 loop-less c = search needs
 
 loop-again : tie.Need-loop-again Inv-loop μ-loop
-loop-again c = let s = c .before .before .loop in (omega arith, read-more (c .before .before .before .before .before .before .args .bytes .now) (s .b) (s .i) (c .entry-at .result) (s .inv .1) (omega arith) (c .entry-at .ensures))
+loop-again c =
+    let at-loop : tie.At-loop Inv-loop μ-loop = search in
+    let start : tie.Start Inv-loop μ-loop = search in
+    let s = at-loop .loop in
+    (omega arith, read-more (start .args .bytes .now) (s .b) (s .i) (c .entry-at .result) (s .inv .1) (omega arith) (c .entry-at .ensures))
 
 returns : tie.Need-returns Inv-loop μ-loop
-returns c = read-all (c .before .before .before .before .before .args .bytes .now) (c .before .loop .b) (c .before .loop .i) (c .before .loop .inv .1) (omega arith)
+returns c =
+    let at-loop : tie.At-loop Inv-loop μ-loop = search in
+    let start : tie.Start Inv-loop μ-loop = search in
+    read-all (start .args .bytes .now) (at-loop .loop .b) (at-loop .loop .i) (at-loop .loop .inv .1) (omega arith)
 
 pub book-of-spec : {M : Type 1} → statement M
 book-of-spec =

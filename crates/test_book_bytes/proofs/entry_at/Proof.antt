@@ -62,16 +62,29 @@ number-at-requires-5 : tie.Need-number-at-requires-5
 number-at-requires-5 c κs = search needs
 
 returns : tie.Need-returns
-returns c = λ i. record {
-  number = c .before .before .before .before .before .before .number-at2 .ensures i;
-  party = c .before .before .before .before .before .byte-at2 .ensures i;
-  kind = c .before .before .before .before .byte-at3 .ensures i;
-  sell = eqb (c .before .before .before .byte-at4 .ensures i) 1;
-  limit = c .before .before .number-at3 .ensures i;
-  quantity = c .before .number-at4 .ensures i;
-  working = c .number-at5 .ensures i;
-  pricing = (c .before .before .before .before .before .before .before .pricing-of .ensures ∙ ap (λ (k : ℕ). pricingRead k (c .before .before .before .before .before .before .before .before .number-at .result)) (c .before .before .before .before .before .before .before .before .before .byte-at .ensures) ∙ ap (pricingRead (byteAt (c .before .before .before .before .before .before .before .before .before .before .before .args .bytes .now) (c .before .before .before .before .before .before .before .before .before .before .before .args .at + 23))) (c .before .before .before .before .before .before .before .before .number-at .ensures)) i;
-}
+returns c =
+    let at-number-at4 : tie.After-number-at4 = search in
+    let at-number-at3 : tie.After-number-at3 = search in
+    let at-byte-at4 : tie.After-byte-at4 = search in
+    let at-byte-at3 : tie.After-byte-at3 = search in
+    let at-byte-at2 : tie.After-byte-at2 = search in
+    let at-number-at2 : tie.After-number-at2 = search in
+    let at-pricing-of : tie.After-pricing-of = search in
+    let at-number-at : tie.After-number-at = search in
+    let at-byte-at : tie.After-byte-at = search in
+    let start : tie.Start = search in
+    λ i. record {
+      number = at-number-at2 .number-at2 .ensures i;
+      party = at-byte-at2 .byte-at2 .ensures i;
+      kind = at-byte-at3 .byte-at3 .ensures i;
+      sell = eqb (at-byte-at4 .byte-at4 .ensures i) 1;
+      limit = at-number-at3 .number-at3 .ensures i;
+      quantity = at-number-at4 .number-at4 .ensures i;
+      working = c .number-at5 .ensures i;
+      pricing =
+          (at-pricing-of .pricing-of .ensures ∙ ap (λ (k : ℕ). pricingRead k (at-number-at .number-at .result)) (at-byte-at .byte-at .ensures)
+          ∙ ap (pricingRead (byteAt (start .args .bytes .now) (start .args .at + 23))) (at-number-at .number-at .ensures)) i;
+    }
 
 pub entry-at-spec : {M : Type 1} → statement M
 entry-at-spec =

@@ -11,7 +11,9 @@ slice-reshare-prefix-write-all : tie.Need-slice-reshare-prefix-write-all
 slice-reshare-prefix-write-all c = search needs
 
 slice-aggregate-write-all : tie.Need-slice-aggregate-write-all
-slice-aggregate-write-all c = sym (length-take-le _ _ (c .before .before .before .answer-lines .ensures .1 .1 .0))
+slice-aggregate-write-all c =
+    let at-answer-lines : tie.After-answer-lines = search in
+    sym (length-take-le _ _ (at-answer-lines .answer-lines .ensures .1 .1 .0))
 
 write-all-requires : tie.Need-write-all-requires
 write-all-requires c κs = search needs

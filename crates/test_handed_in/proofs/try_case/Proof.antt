@@ -11,7 +11,9 @@ array-borrow-prefix-room : tie.Need-array-borrow-prefix-room
 array-borrow-prefix-room c = search needs
 
 slice-aggregate-try-with : tie.Need-slice-aggregate-try-with
-slice-aggregate-try-with c = sym (length-take-le _ _ (c .before .length-at .ensures .1))
+slice-aggregate-try-with c =
+    let at-length-at : tie.After-length-at = search in
+    sym (length-take-le _ _ (at-length-at .length-at .ensures .1))
 
 try-with-requires : tie.Need-try-with-requires
 try-with-requires c κs = search needs

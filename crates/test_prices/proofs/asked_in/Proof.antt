@@ -30,17 +30,26 @@ number-at-requires-9 : tie.Need-number-at-requires-9
 number-at-requires-9 c κs = search needs
 
 returns : tie.Need-returns
-returns c = λ i. record {
-  ask = c .before .before .before .before .before .before .before .before .number-at .ensures i;
-  a = c .before .before .before .before .before .before .before .number-at2 .ensures i;
-  b = c .before .before .before .before .before .before .number-at3 .ensures i;
-  c = c .before .before .before .before .before .number-at4 .ensures i;
-  d = c .before .before .before .before .number-at5 .ensures i;
-  e = c .before .before .before .number-at6 .ensures i;
-  f = c .before .before .number-at7 .ensures i;
-  g = c .before .number-at8 .ensures i;
-  h = c .number-at9 .ensures i;
-}
+returns c =
+    let at-number-at8 : tie.After-number-at8 = search in
+    let at-number-at7 : tie.After-number-at7 = search in
+    let at-number-at6 : tie.After-number-at6 = search in
+    let at-number-at5 : tie.After-number-at5 = search in
+    let at-number-at4 : tie.After-number-at4 = search in
+    let at-number-at3 : tie.After-number-at3 = search in
+    let at-number-at2 : tie.After-number-at2 = search in
+    let at-number-at : tie.After-number-at = search in
+    λ i. record {
+      ask = at-number-at .number-at .ensures i;
+      a = at-number-at2 .number-at2 .ensures i;
+      b = at-number-at3 .number-at3 .ensures i;
+      c = at-number-at4 .number-at4 .ensures i;
+      d = at-number-at5 .number-at5 .ensures i;
+      e = at-number-at6 .number-at6 .ensures i;
+      f = at-number-at7 .number-at7 .ensures i;
+      g = at-number-at8 .number-at8 .ensures i;
+      h = c .number-at9 .ensures i;
+    }
 
 pub asked-in-spec : {M : Type 1} → statement M
 asked-in-spec =

@@ -12,7 +12,7 @@ returns : tie.Need-returns
 returns c = refl
 
 returns-2 : tie.Need-returns-2
-returns-2 c = beyond (c .before .args .bytes .now) (c .before .args .at) (omega arith)
+returns-2 c = let start : tie.Start = search in beyond (start .args .bytes .now) (start .args .at) (omega arith)
 
 pub byte-at-spec : {M : Type 1} → statement M
 byte-at-spec = tie.close (tie.spec shared-slice-read-result returns returns-2)

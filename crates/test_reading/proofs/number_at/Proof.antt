@@ -5,13 +5,13 @@ use Rattle.test_reading.proofs.number_at.Statement.{statement}
 use Rattle.test_reading.proofs.number_at.Tie as tie
 
 returns : tie.Need-returns
-returns c = too-few (c .before .before .args .bytes .now) (c .before .before .args .at) (omega arith)
+returns c = let start : tie.Start = search in too-few (start .args .bytes .now) (start .args .at) (omega arith)
 
 sub-if2 : tie.Need-sub-if2
 sub-if2 c = search needs
 
 returns-2 : tie.Need-returns-2
-returns-2 c = too-few (c .before .before .before .args .bytes .now) (c .before .before .before .args .at) (omega arith)
+returns-2 c = let start : tie.Start = search in too-few (start .args .bytes .now) (start .args .at) (omega arith)
 
 shared-slice-read-wide : tie.Need-shared-slice-read-wide
 shared-slice-read-wide c = search needs
@@ -66,8 +66,12 @@ add-result c = search needs
 
 returns-3 : tie.Need-returns-3
 returns-3 c =
-    let s = c .before .before .before .before .before .before .before .before .before .before .before in
-    four (s .args .bytes .now) (s .args .at) (omega arith) _ _ _ _ (c .before .before .before .before .before .before .wide .ensures .0) (c .before .before .before .before .wide2 .ensures .0) (c .before .before .wide3 .ensures .0) (c .wide4 .ensures .0)
+    let at-wide3 : tie.After-wide3 = search in
+    let at-wide2 : tie.After-wide2 = search in
+    let at-wide : tie.After-wide = search in
+    let start : tie.Start = search in
+    four (start .args .bytes .now) (start .args .at) (omega arith) _ _ _ _ (at-wide .wide .ensures .0) (at-wide2 .wide2 .ensures .0)
+    (at-wide3 .wide3 .ensures .0) (c .wide4 .ensures .0)
 
 pub number-at-spec : {M : Type 1} → statement M
 number-at-spec =

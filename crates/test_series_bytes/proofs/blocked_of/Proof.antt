@@ -34,10 +34,14 @@ loop-less : tie.Need-loop-less Inv-loop μ-loop
 loop-less c = search needs
 
 loop-again : tie.Need-loop-again Inv-loop μ-loop
-loop-again c = (omega arith, filled-more false _ (c .before .before .loop .inv .1) (omega arith) (ap (λ (k : ℕ). eqb k 1) (c .byte-at .ensures)))
+loop-again c =
+    let at-loop : tie.At-loop Inv-loop μ-loop = search in
+    (omega arith, filled-more false _ (at-loop .loop .inv .1) (omega arith) (ap (λ (k : ℕ). eqb k 1) (c .byte-at .ensures)))
 
 returns : tie.Need-returns Inv-loop μ-loop
-returns c = filled-all false _ (c .before .loop .inv .1) (omega arith)
+returns c =
+    let at-loop : tie.At-loop Inv-loop μ-loop = search in
+    filled-all false _ (at-loop .loop .inv .1) (omega arith)
 
 pub blocked-of-spec : {M : Type 1} → statement M
 blocked-of-spec =

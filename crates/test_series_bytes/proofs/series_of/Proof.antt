@@ -28,11 +28,15 @@ book-of-requires : tie.Need-book-of-requires
 book-of-requires c κs = search needs
 
 returns : tie.Need-returns
-returns c = λ i. record {
-  terms = c .before .before .before .terms-of .ensures i;
-  blocked = c .before .before .blocked-of .ensures i;
-  book = (c .book-of .ensures ∙ ap bookIn (to-the-end (c .before .before .before .before .before .args .bytes .now))) i;
-}
+returns c =
+    let at-blocked-of : tie.After-blocked-of = search in
+    let at-terms-of : tie.After-terms-of = search in
+    let start : tie.Start = search in
+    λ i. record {
+      terms = at-terms-of .terms-of .ensures i;
+      blocked = at-blocked-of .blocked-of .ensures i;
+      book = (c .book-of .ensures ∙ ap bookIn (to-the-end (start .args .bytes .now))) i;
+    }
   where
     to-the-end : (l : List ℕ) → take (length l - 50) (drop 50 l) ≡ drop 50 l
     to-the-end l = take-all (length l - 50) (drop 50 l) (omega (arith, length-drop 50 l))

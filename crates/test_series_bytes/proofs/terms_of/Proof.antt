@@ -34,18 +34,28 @@ number-at-requires-8 : tie.Need-number-at-requires-8
 number-at-requires-8 c κs = search needs
 
 returns : tie.Need-returns
-returns c = λ i. record {
-  put = eqb (c .before .before .before .before .before .before .before .before .before .byte-at .ensures i) 1;
-  exempt = eqb (c .before .before .before .before .before .before .before .before .byte-at2 .ensures i) 1;
-  m = c .before .before .before .before .before .before .before .number-at .ensures i;
-  k = c .before .before .before .before .before .before .number-at2 .ensures i;
-  strike = c .before .before .before .before .before .number-at3 .ensures i;
-  phase = c .before .before .before .before .number-at4 .ensures i;
-  bid = c .before .before .before .number-at5 .ensures i;
-  offer = c .before .before .number-at6 .ensures i;
-  underlying = c .before .number-at7 .ensures i;
-  given = c .number-at8 .ensures i;
-}
+returns c =
+    let at-number-at7 : tie.After-number-at7 = search in
+    let at-number-at6 : tie.After-number-at6 = search in
+    let at-number-at5 : tie.After-number-at5 = search in
+    let at-number-at4 : tie.After-number-at4 = search in
+    let at-number-at3 : tie.After-number-at3 = search in
+    let at-number-at2 : tie.After-number-at2 = search in
+    let at-number-at : tie.After-number-at = search in
+    let at-byte-at2 : tie.After-byte-at2 = search in
+    let at-byte-at : tie.After-byte-at = search in
+    λ i. record {
+      put = eqb (at-byte-at .byte-at .ensures i) 1;
+      exempt = eqb (at-byte-at2 .byte-at2 .ensures i) 1;
+      m = at-number-at .number-at .ensures i;
+      k = at-number-at2 .number-at2 .ensures i;
+      strike = at-number-at3 .number-at3 .ensures i;
+      phase = at-number-at4 .number-at4 .ensures i;
+      bid = at-number-at5 .number-at5 .ensures i;
+      offer = at-number-at6 .number-at6 .ensures i;
+      underlying = at-number-at7 .number-at7 .ensures i;
+      given = c .number-at8 .ensures i;
+    }
 
 pub terms-of-spec : {M : Type 1} → statement M
 terms-of-spec =

@@ -11,25 +11,50 @@ is-trading-requires : tie.Need-is-trading-requires
 is-trading-requires c κs = search needs
 
 rejection-of-requires : tie.Need-rejection-of-requires
-rejection-of-requires c κs = record { enters = c .before .before .pre .enters; trades = c .is-trading .ensures }
+rejection-of-requires c κs =
+    let start : tie.Start = search in
+    record { enters = start .pre .enters; trades = c .is-trading .ensures }
 
 reject-requires : tie.Need-reject-requires
-reject-requires c κs = arrive-rejects (c .before .before .before .before .before .before .pre) _ (c .before .before .before .rejection-of .ensures) (c .before .before .if1 .taken)
+reject-requires c κs =
+    let at-if1 : tie.Then1 = search in
+    let at-rejection-of : tie.After-rejection-of = search in
+    let start : tie.Start = search in
+    arrive-rejects (start .pre) _ (at-rejection-of .rejection-of .ensures) (at-if1 .if1 .taken)
 
 same-length : tie.Need-same-length
 same-length c = search needs
 
 returns : tie.Need-returns
-returns c = let s = c .before .before .before .before .before .before .before .before .before in staged-as (sym (arrived-rejected (s .args .t) (s .args .e) (entriesOf (s .args .b)) _ (c .before .before .before .before .before .before .rejection-of .ensures) (c .before .before .before .before .before .if1 .taken))) (c .before .before .reject .ensures)
+returns c =
+    let at-reject : tie.After-reject = search in
+    let at-if1 : tie.Then1 = search in
+    let at-rejection-of : tie.After-rejection-of = search in
+    let start : tie.Start = search in
+    staged-as
+    (sym (arrived-rejected (start .args .t) (start .args .e) (entriesOf (start .args .b)) _ (at-rejection-of .rejection-of .ensures) (at-if1 .if1 .taken)))
+    (at-reject .reject .ensures)
 
 enter-requires : tie.Need-enter-requires
-enter-requires c κs = arrive-enters (c .before .before .before .before .before .before .pre) _ (c .before .before .before .rejection-of .ensures) _ (c .before .before .before .before .is-trading .ensures) (c .before .before .if1 .left)
+enter-requires c κs =
+    let at-if1 : tie.Else1 = search in
+    let at-rejection-of : tie.After-rejection-of = search in
+    let at-is-trading : tie.After-is-trading = search in
+    let start : tie.Start = search in
+    arrive-enters (start .pre) _ (at-rejection-of .rejection-of .ensures) _ (at-is-trading .is-trading .ensures) (at-if1 .if1 .left)
 
 same-length-2 : tie.Need-same-length-2
 same-length-2 c = search needs
 
 returns-2 : tie.Need-returns-2
-returns-2 c = let s = c .before .before .before .before .before .before .before .before .before in staged-as (sym (arrived-enters (s .args .t) (s .args .e) (entriesOf (s .args .b)) _ (c .before .before .before .before .before .before .rejection-of .ensures) (c .before .before .before .before .before .if1 .left))) (c .before .before .enter .ensures)
+returns-2 c =
+    let at-enter : tie.After-enter = search in
+    let at-if1 : tie.Else1 = search in
+    let at-rejection-of : tie.After-rejection-of = search in
+    let start : tie.Start = search in
+    staged-as
+    (sym (arrived-enters (start .args .t) (start .args .e) (entriesOf (start .args .b)) _ (at-rejection-of .rejection-of .ensures) (at-if1 .if1 .left)))
+    (at-enter .enter .ensures)
 
 pub arrive-spec : {M : Type 1} → statement M
 arrive-spec =

@@ -14,7 +14,12 @@ tell-cancelled-requires : tie.Need-tell-cancelled-requires
 tell-cancelled-requires c κs = search needs
 
 put-requires : tie.Need-put-requires
-put-requires c κs = let s = c .before .before .before .before .before in cancel-room (s .args .why) (s .args .e) (s .args .left) (s .pre) _ _ (c .before .before .before .remainder-of .ensures) (c .before .before .tell-cancelled .ensures)
+put-requires c κs =
+    let at-tell-cancelled : tie.After-tell-cancelled = search in
+    let at-remainder-of : tie.After-remainder-of = search in
+    let start : tie.Start = search in
+    cancel-room (start .args .why) (start .args .e) (start .args .left) (start .pre) _ _ (at-remainder-of .remainder-of .ensures)
+    (at-tell-cancelled .tell-cancelled .ensures)
 
 is-quote-requires : tie.Need-is-quote-requires
 is-quote-requires c κs = search needs
@@ -23,19 +28,50 @@ opposite-quote-requires : tie.Need-opposite-quote-requires
 opposite-quote-requires c κs = search needs
 
 cut-rank-requires : tie.Need-cut-rank-requires
-cut-rank-requires c κs = let s = c .before .before .before .before .before .before .before .before .before .before .before .before .before in let e = s .args .e in quote-cuts _ (e .party) (not (e .sell)) _ (c .before .before .opposite-quote .ensures) (asks-reason 29 (e .party) (not (e .sell)) _ (omega arith) (other-asks (s .args .why) (s .args .e) (s .args .left) (s .pre) _ _ (c .before .before .before .before .before .before .before .before .before .before .before .remainder-of .ensures) (c .before .before .before .before .before .before .before .before .before .before .tell-cancelled .ensures) (c .before .before .before .before .before .before .before .put .ensures) (sym (c .before .before .before .before .is-quote .ensures) ∙ c .before .before .before .if1 .taken)))
+cut-rank-requires c κs =
+    let at-opposite-quote : tie.After-opposite-quote = search in
+    let at-if1 : tie.Then1 = search in
+    let at-is-quote : tie.After-is-quote = search in
+    let at-put : tie.After-put = search in
+    let at-tell-cancelled : tie.After-tell-cancelled = search in
+    let at-remainder-of : tie.After-remainder-of = search in
+    let start : tie.Start = search in
+    let e = start .args .e in
+    quote-cuts _ (e .party) (not (e .sell)) _ (at-opposite-quote .opposite-quote .ensures)
+    (asks-reason 29 (e .party) (not (e .sell)) _ (omega arith)
+    (other-asks (start .args .why) (start .args .e) (start .args .left) (start .pre) _ _ (at-remainder-of .remainder-of .ensures)
+    (at-tell-cancelled .tell-cancelled .ensures) (at-put .put .ensures) (sym (at-is-quote .is-quote .ensures) ∙ at-if1 .if1 .taken)))
 
 same-length : tie.Need-same-length
 same-length c = search needs
 
 returns : tie.Need-returns
-returns c = let s = c .before .before .before .before .before .before .before .before .before .before .before .before .before .before .before .before in let e = s .args .e in other-done (s .args .why) (s .args .e) (s .args .left) (s .pre) _ _ (c .before .before .before .before .before .before .before .before .before .before .before .before .before .before .remainder-of .ensures) (c .before .before .before .before .before .before .before .before .before .before .before .before .before .tell-cancelled .ensures) (c .before .before .before .before .before .before .before .before .before .before .put .ensures) (sym (c .before .before .before .before .before .before .before .is-quote .ensures) ∙ c .before .before .before .before .before .before .if1 .taken) (quote-cut 29 (e .party) (not (e .sell)) _ (c .before .before .before .before .before .opposite-quote .ensures) (s .pre .well) (c .before .before .cut-rank .ensures))
+returns c =
+    let at-cut-rank : tie.After-cut-rank = search in
+    let at-opposite-quote : tie.After-opposite-quote = search in
+    let at-if1 : tie.Then1 = search in
+    let at-is-quote : tie.After-is-quote = search in
+    let at-put : tie.After-put = search in
+    let at-tell-cancelled : tie.After-tell-cancelled = search in
+    let at-remainder-of : tie.After-remainder-of = search in
+    let start : tie.Start = search in
+    let e = start .args .e in
+    other-done (start .args .why) (start .args .e) (start .args .left) (start .pre) _ _ (at-remainder-of .remainder-of .ensures)
+    (at-tell-cancelled .tell-cancelled .ensures) (at-put .put .ensures) (sym (at-is-quote .is-quote .ensures) ∙ at-if1 .if1 .taken)
+    (quote-cut 29 (e .party) (not (e .sell)) _ (at-opposite-quote .opposite-quote .ensures) (start .pre .well) (at-cut-rank .cut-rank .ensures))
 
 same-length-2 : tie.Need-same-length-2
 same-length-2 c = search needs
 
 returns-2 : tie.Need-returns-2
-returns-2 c = let s = c .before .before .before .before .before .before .before .before .before .before in alone-done (s .args .why) (s .args .e) (s .args .left) (s .pre) _ _ (c .before .before .before .before .before .before .before .before .remainder-of .ensures) (c .before .before .before .before .before .before .before .tell-cancelled .ensures) (c .before .before .before .before .put .ensures) (sym (c .before .is-quote .ensures) ∙ c .if1 .left)
+returns-2 c =
+    let at-is-quote : tie.After-is-quote = search in
+    let at-put : tie.After-put = search in
+    let at-tell-cancelled : tie.After-tell-cancelled = search in
+    let at-remainder-of : tie.After-remainder-of = search in
+    let start : tie.Start = search in
+    alone-done (start .args .why) (start .args .e) (start .args .left) (start .pre) _ _ (at-remainder-of .remainder-of .ensures)
+    (at-tell-cancelled .tell-cancelled .ensures) (at-put .put .ensures) (sym (at-is-quote .is-quote .ensures) ∙ c .if1 .left)
 
 pub cancel-rest-spec : {M : Type 1} → statement M
 cancel-rest-spec =

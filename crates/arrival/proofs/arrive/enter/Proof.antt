@@ -4,19 +4,31 @@ use Rattle.arrival.proofs.arrive.enter.Statement.{statement}
 use Rattle.arrival.proofs.arrive.enter.Tie as tie
 
 replace-requires : tie.Need-replace-requires
-replace-requires c κs = enter-replaces (c .before .before .before .pre)
+replace-requires c κs = let start : tie.Start = search in enter-replaces (start .pre)
 
 take-requires : tie.Need-take-requires
-take-requires c κs = enter-takes (c .before .before .before .before .before .before .before .before .before .pre) (c .before .before .before .before .before .replace .ensures)
+take-requires c κs =
+    let at-replace : tie.After-replace = search in
+    let start : tie.Start = search in
+    enter-takes (start .pre) (at-replace .replace .ensures)
 
 finish-requires : tie.Need-finish-requires
-finish-requires c κs = enter-finishes (c .before .before .before .before .before .before .before .before .before .before .before .before .before .before .pre) (c .before .before .before .before .before .before .before .before .before .before .replace .ensures) (c .before .before .before .before .take .ensures)
+finish-requires c κs =
+    let at-take : tie.After-take = search in
+    let at-replace : tie.After-replace = search in
+    let start : tie.Start = search in
+    enter-finishes (start .pre) (at-replace .replace .ensures) (at-take .take .ensures)
 
 same-length : tie.Need-same-length
 same-length c = search needs
 
 returns : tie.Need-returns
-returns c = enter-done (c .before .before .before .before .before .before .before .before .before .before .before .before .before .before .before .before .before .pre) (c .before .before .before .before .before .before .before .before .before .before .before .before .before .replace .ensures) (c .before .before .before .before .before .before .before .take .ensures) (c .before .before .finish .ensures)
+returns c =
+    let at-finish : tie.After-finish = search in
+    let at-take : tie.After-take = search in
+    let at-replace : tie.After-replace = search in
+    let start : tie.Start = search in
+    enter-done (start .pre) (at-replace .replace .ensures) (at-take .take .ensures) (at-finish .finish .ensures)
 
 pub enter-spec : {M : Type 1} → statement M
 enter-spec =

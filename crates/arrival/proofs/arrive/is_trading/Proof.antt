@@ -15,7 +15,12 @@ is-minding-requires : tie.Need-is-minding-requires
 is-minding-requires c κs = search needs
 
 returns : tie.Need-returns
-returns c = let s = c .before .before .before in trades-none (s .args .t) (s .args .e) (entriesOf (s .args .b)) (ap minds (sym (c .before .before .kind-of .ensures)) ∙ sym (c .before .is-minding .ensures) ∙ c .if1 .taken)
+returns c =
+    let at-is-minding : tie.After-is-minding = search in
+    let at-kind-of : tie.After-kind-of = search in
+    let start : tie.Start = search in
+    trades-none (start .args .t) (start .args .e) (entriesOf (start .args .b))
+    (ap minds (sym (at-kind-of .kind-of .ensures)) ∙ sym (at-is-minding .is-minding .ensures) ∙ c .if1 .taken)
 
 market-of-requires : tie.Need-market-of-requires
 market-of-requires c κs = search needs
@@ -27,13 +32,29 @@ is-offered-requires : tie.Need-is-offered-requires
 is-offered-requires c κs = search needs
 
 returns-2 : tie.Need-returns-2
-returns-2 c = let s = c .before .before .before .before .before .before .before in trades-far (s .args .t) (s .args .e) (entriesOf (s .args .b)) (facts-of (s .pre .arriving) .1) _ _ (c .before .before .before .market-of .ensures) (c .before .before .bound-of .ensures) (ap (offered (s .args .e .sell) _) (sym (s .pre .faces .contra)) ∙ sym (c .before .is-offered .ensures) ∙ not-true _ (c .if2 .taken))
+returns-2 c =
+    let at-is-offered : tie.After-is-offered = search in
+    let at-bound-of : tie.After-bound-of = search in
+    let at-market-of : tie.After-market-of = search in
+    let start : tie.Start = search in
+    trades-far (start .args .t) (start .args .e) (entriesOf (start .args .b)) (facts-of (start .pre .arriving) .1) _ _ (at-market-of .market-of .ensures)
+    (at-bound-of .bound-of .ensures)
+    (ap (offered (start .args .e .sell) _) (sym (start .pre .faces .contra)) ∙ sym (at-is-offered .is-offered .ensures) ∙ not-true _ (c .if2 .taken))
 
 next-trade-requires : tie.Need-next-trade-requires
 next-trade-requires c κs = search needs
 
 returns-3 : tie.Need-returns-3
-returns-3 c = let s = c .before .before .before .before .before .before .before .before in trades-now (s .args .t) (s .args .e) (entriesOf (s .args .b)) _ _ _ (ap minds (sym (c .before .before .before .before .before .before .before .kind-of .ensures)) ∙ sym (c .before .before .before .before .before .before .is-minding .ensures) ∙ c .before .before .before .before .before .if1 .left) (c .before .before .before .before .market-of .ensures) (c .before .before .before .bound-of .ensures) (c .next-trade .ensures)
+returns-3 c =
+    let at-bound-of : tie.After-bound-of = search in
+    let at-market-of : tie.After-market-of = search in
+    let at-if1 : tie.Else1 = search in
+    let at-is-minding : tie.After-is-minding = search in
+    let at-kind-of : tie.After-kind-of = search in
+    let start : tie.Start = search in
+    trades-now (start .args .t) (start .args .e) (entriesOf (start .args .b)) _ _ _
+    (ap minds (sym (at-kind-of .kind-of .ensures)) ∙ sym (at-is-minding .is-minding .ensures) ∙ at-if1 .if1 .left) (at-market-of .market-of .ensures)
+    (at-bound-of .bound-of .ensures) (c .next-trade .ensures)
 
 pub is-trading-spec : {M : Type 1} → statement M
 is-trading-spec =

@@ -1,4 +1,4 @@
-use Rattle.arrival.specs.Post.{resting}
+use Rattle.arrival.specs.Post.{asPosted}
 use mathlib.Core.Path.{ap, _∙_}
 use Rattle.arrival.proofs.EnterLaws.{rest-room, rest-done}
 use borrow.Author.Needs.{needs}
@@ -15,7 +15,13 @@ tell-rested-requires : tie.Need-tell-rested-requires
 tell-rested-requires c κs = search needs
 
 put-requires : tie.Need-put-requires
-put-requires c κs = let s = c .before .before .before .before .before .before in rest-room (s .pre) _ _ (c .before .before .before .rest-of .ensures ∙ ap (resting (s .args .e) (s .args .left)) (c .before .before .before .before .prices-of .ensures)) (c .before .before .tell-rested .ensures)
+put-requires c κs =
+    let at-tell-rested : tie.After-tell-rested = search in
+    let at-rest-of : tie.After-rest-of = search in
+    let at-prices-of : tie.After-prices-of = search in
+    let start : tie.Start = search in
+    rest-room (start .pre) _ _ (at-rest-of .rest-of .ensures ∙ ap (asPosted (start .args .e) (start .args .left)) (at-prices-of .prices-of .ensures))
+    (at-tell-rested .tell-rested .ensures)
 
 posted-requires : tie.Need-posted-requires
 posted-requires c κs = search needs
@@ -24,7 +30,14 @@ same-length : tie.Need-same-length
 same-length c = search needs
 
 returns : tie.Need-returns
-returns c = let s = c .before .before .before .before .before .before .before .before .before .before in rest-done (s .pre) _ _ (c .before .before .before .before .before .before .before .rest-of .ensures ∙ ap (resting (s .args .e) (s .args .left)) (c .before .before .before .before .before .before .before .before .prices-of .ensures)) (c .before .before .before .before .before .before .tell-rested .ensures) (c .before .before .before .put .ensures) (c .posted .ensures)
+returns c =
+    let at-put : tie.After-put = search in
+    let at-tell-rested : tie.After-tell-rested = search in
+    let at-rest-of : tie.After-rest-of = search in
+    let at-prices-of : tie.After-prices-of = search in
+    let start : tie.Start = search in
+    rest-done (start .pre) _ _ (at-rest-of .rest-of .ensures ∙ ap (asPosted (start .args .e) (start .args .left)) (at-prices-of .prices-of .ensures))
+    (at-tell-rested .tell-rested .ensures) (at-put .put .ensures) (c .posted .ensures)
 
 pub post-rest-spec : {M : Type 1} → statement M
 post-rest-spec =

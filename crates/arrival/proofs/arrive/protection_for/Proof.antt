@@ -8,7 +8,9 @@ is-quote-requires : tie.Need-is-quote-requires
 is-quote-requires c κs = search needs
 
 returns : tie.Need-returns
-returns c = rw (sym (c .before .is-quote .ensures) ∙ not-true _ (c .if1 .taken)) refl
+returns c =
+    let at-is-quote : tie.After-is-quote = search in
+    rw (sym (at-is-quote .is-quote .ensures) ∙ not-true _ (c .if1 .taken)) refl
 
 guard-of-requires : tie.Need-guard-of-requires
 guard-of-requires c κs = search needs
@@ -17,7 +19,11 @@ protection-of-requires : tie.Need-protection-of-requires
 protection-of-requires c κs = search needs
 
 returns-2 : tie.Need-returns-2
-returns-2 c = rw (sym (c .before .before .before .is-quote .ensures) ∙ not-false _ (c .before .before .if1 .left)) (c .protection-of .ensures ∙ rw (c .before .guard-of .ensures) refl)
+returns-2 c =
+    let at-guard-of : tie.After-guard-of = search in
+    let at-if1 : tie.Else1 = search in
+    let at-is-quote : tie.After-is-quote = search in
+    rw (sym (at-is-quote .is-quote .ensures) ∙ not-false _ (at-if1 .if1 .left)) (c .protection-of .ensures ∙ rw (at-guard-of .guard-of .ensures) refl)
 
 pub protection-for-spec : {M : Type 1} → statement M
 protection-for-spec =

@@ -9,13 +9,22 @@ protection-for-requires : tie.Need-protection-for-requires
 protection-for-requires c κs = national-cents (c .pre .enters)
 
 returns : tie.Need-returns
-returns c = let s = c .before .before in rejects-first (s .args .t) (s .args .e) (entriesOf (s .args .b)) _ (c .before .protection-for .ensures ∙ protected-by (s .pre .enters)) (c .if1 .taken)
+returns c =
+    let at-protection-for : tie.After-protection-for = search in
+    let start : tie.Start = search in
+    rejects-first (start .args .t) (start .args .e) (entriesOf (start .args .b)) _
+    (at-protection-for .protection-for .ensures ∙ protected-by (start .pre .enters)) (c .if1 .taken)
 
 stops-at-once-requires : tie.Need-stops-at-once-requires
 stops-at-once-requires c κs = search needs
 
 returns-2 : tie.Need-returns-2
-returns-2 c = let s = c .before .before .before in rejects-then (s .args .t) (s .args .e) (entriesOf (s .args .b)) _ _ (c .before .before .protection-for .ensures ∙ protected-by (s .pre .enters)) (c .before .if1 .left) (c .stops-at-once .ensures)
+returns-2 c =
+    let at-if1 : tie.Else1 = search in
+    let at-protection-for : tie.After-protection-for = search in
+    let start : tie.Start = search in
+    rejects-then (start .args .t) (start .args .e) (entriesOf (start .args .b)) _ _
+    (at-protection-for .protection-for .ensures ∙ protected-by (start .pre .enters)) (at-if1 .if1 .left) (c .stops-at-once .ensures)
 
 pub rejection-of-spec : {M : Type 1} → statement M
 rejection-of-spec =

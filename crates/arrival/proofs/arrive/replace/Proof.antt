@@ -17,16 +17,41 @@ is-quote-requires : tie.Need-is-quote-requires
 is-quote-requires c κs = search needs
 
 cut-quote-requires : tie.Need-cut-quote-requires
-cut-quote-requires c κs = let s = c .before .before .before .before .before in let e = s .args .e in asks-reason 27 (e .party) (e .sell) _ (omega arith) (record { well = s .pre .well; roomy = roomy-as (ap (λ (x : Ran (List Entry) Report). x .records) (sym (of-quote e (cutQuote 27 (e .party) (e .sell)) (entriesOf (s .args .b)) (sym (c .before .before .before .is-quote .ensures) ∙ c .before .before .if1 .taken)))) (s .pre .roomy) })
+cut-quote-requires c κs =
+    let at-if1 : tie.Then1 = search in
+    let at-is-quote : tie.After-is-quote = search in
+    let start : tie.Start = search in
+    let e = start .args .e in
+    asks-reason 27 (e .party) (e .sell) _ (omega arith)
+    (record {
+      well = start .pre .well;
+      roomy =
+          roomy-as
+          (ap (λ (x : Ran (List Entry) Report). x .records)
+          (sym (of-quote e (cutQuote 27 (e .party) (e .sell)) (entriesOf (start .args .b)) (sym (at-is-quote .is-quote .ensures) ∙ at-if1 .if1 .taken))))
+          (start .pre .roomy);
+    })
 
 same-length : tie.Need-same-length
 same-length c = search needs
 
 returns : tie.Need-returns
-returns c = let s = c .before .before .before .before .before .before .before .before in let e = s .args .e in staged-as (of-quote e (cutQuote 27 (e .party) (e .sell)) (entriesOf (s .args .b)) (sym (c .before .before .before .before .before .before .is-quote .ensures) ∙ c .before .before .before .before .before .if1 .taken)) (c .before .before .cut-quote .ensures)
+returns c =
+    let at-cut-quote : tie.After-cut-quote = search in
+    let at-if1 : tie.Then1 = search in
+    let at-is-quote : tie.After-is-quote = search in
+    let start : tie.Start = search in
+    let e = start .args .e in
+    staged-as (of-quote e (cutQuote 27 (e .party) (e .sell)) (entriesOf (start .args .b)) (sym (at-is-quote .is-quote .ensures) ∙ at-if1 .if1 .taken))
+    (at-cut-quote .cut-quote .ensures)
 
 returns-2 : tie.Need-returns-2
-returns-2 c = let s = c .before .before .before in let e = s .args .e in staged-as (of-order e (cutQuote 27 (e .party) (e .sell)) (entriesOf (s .args .b)) (sym (c .before .is-quote .ensures) ∙ c .if1 .left)) (staged-none (s .args .b) (s .args .room .now) (s .args .n .now) (s .pre .well))
+returns-2 c =
+    let at-is-quote : tie.After-is-quote = search in
+    let start : tie.Start = search in
+    let e = start .args .e in
+    staged-as (of-order e (cutQuote 27 (e .party) (e .sell)) (entriesOf (start .args .b)) (sym (at-is-quote .is-quote .ensures) ∙ c .if1 .left))
+    (staged-none (start .args .b) (start .args .room .now) (start .args .n .now) (start .pre .well))
 
 pub replace-spec : {M : Type 1} → statement M
 replace-spec =

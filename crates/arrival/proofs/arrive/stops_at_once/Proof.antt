@@ -10,16 +10,30 @@ is-quote-requires : tie.Need-is-quote-requires
 is-quote-requires c κs = search needs
 
 returns : tie.Need-returns
-returns c = let s = c .before .before in once-order (s .args .t) (s .args .e) (entriesOf (s .args .b)) (sym (c .before .is-quote .ensures) ∙ not-true _ (c .if1 .taken))
+returns c =
+    let at-is-quote : tie.After-is-quote = search in
+    let start : tie.Start = search in
+    once-order (start .args .t) (start .args .e) (entriesOf (start .args .b)) (sym (at-is-quote .is-quote .ensures) ∙ not-true _ (c .if1 .taken))
 
 returns-2 : tie.Need-returns-2
-returns-2 c = let s = c .before .before .before in once-trades (s .args .t) (s .args .e) (entriesOf (s .args .b)) (sym (c .before .before .is-quote .ensures) ∙ not-false _ (c .before .if1 .left)) (not-true _ (sym (s .pre .trades) ∙ c .if2 .taken))
+returns-2 c =
+    let at-if1 : tie.Else1 = search in
+    let at-is-quote : tie.After-is-quote = search in
+    let start : tie.Start = search in
+    once-trades (start .args .t) (start .args .e) (entriesOf (start .args .b)) (sym (at-is-quote .is-quote .ensures) ∙ not-false _ (at-if1 .if1 .left))
+    (not-true _ (sym (start .pre .trades) ∙ c .if2 .taken))
 
 stop-for-requires : tie.Need-stop-for-requires
-stop-for-requires c κs = enters-posts (c .before .before .before .pre .enters)
+stop-for-requires c κs = let start : tie.Start = search in enters-posts (start .pre .enters)
 
 returns-3 : tie.Need-returns-3
-returns-3 c = let s = c .before .before .before .before in once-stops (s .args .t) (s .args .e) (entriesOf (s .args .b)) _ (sym (c .before .before .before .is-quote .ensures) ∙ not-false _ (c .before .before .if1 .left)) (not-false _ (sym (s .pre .trades) ∙ c .before .if2 .left)) (c .stop-for .ensures)
+returns-3 c =
+    let at-if2 : tie.Else2 = search in
+    let at-if1 : tie.Else1 = search in
+    let at-is-quote : tie.After-is-quote = search in
+    let start : tie.Start = search in
+    once-stops (start .args .t) (start .args .e) (entriesOf (start .args .b)) _ (sym (at-is-quote .is-quote .ensures) ∙ not-false _ (at-if1 .if1 .left))
+    (not-false _ (sym (start .pre .trades) ∙ at-if2 .if2 .left)) (c .stop-for .ensures)
 
 pub stops-at-once-spec : {M : Type 1} → statement M
 stops-at-once-spec =

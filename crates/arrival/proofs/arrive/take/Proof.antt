@@ -5,7 +5,7 @@ use Rattle.arrival.proofs.arrive.take.Statement.{statement}
 use Rattle.arrival.proofs.arrive.take.Tie as tie
 
 returns : tie.Need-returns
-returns c = take-none (c .before .before .pre) (not-true _ (c .if1 .taken))
+returns c = let start : tie.Start = search in take-none (start .pre) (not-true _ (c .if1 .taken))
 
 market-of-requires : tie.Need-market-of-requires
 market-of-requires c κs = search needs
@@ -14,13 +14,25 @@ bound-of-requires : tie.Need-bound-of-requires
 bound-of-requires c κs = search needs
 
 take-all-requires : tie.Need-take-all-requires
-take-all-requires c κs = take-asks (c .before .before .before .before .before .before .before .pre) _ _ (not-false _ (c .before .before .before .before .before .if1 .left)) (c .before .before .before .before .market-of .ensures) (c .before .before .before .bound-of .ensures)
+take-all-requires c κs =
+    let at-bound-of : tie.After-bound-of = search in
+    let at-market-of : tie.After-market-of = search in
+    let at-if1 : tie.Else1 = search in
+    let start : tie.Start = search in
+    take-asks (start .pre) _ _ (not-false _ (at-if1 .if1 .left)) (at-market-of .market-of .ensures) (at-bound-of .bound-of .ensures)
 
 same-length : tie.Need-same-length
 same-length c = search needs
 
 returns-2 : tie.Need-returns-2
-returns-2 c = take-took (c .before .before .before .before .before .before .before .before .before .before .pre) _ _ (not-false _ (c .before .before .before .before .before .before .before .before .if1 .left)) (c .before .before .before .before .before .before .before .market-of .ensures) (c .before .before .before .before .before .before .bound-of .ensures) (c .before .before .take-all .ensures)
+returns-2 c =
+    let at-take-all : tie.After-take-all = search in
+    let at-bound-of : tie.After-bound-of = search in
+    let at-market-of : tie.After-market-of = search in
+    let at-if1 : tie.Else1 = search in
+    let start : tie.Start = search in
+    take-took (start .pre) _ _ (not-false _ (at-if1 .if1 .left)) (at-market-of .market-of .ensures) (at-bound-of .bound-of .ensures)
+    (at-take-all .take-all .ensures)
 
 pub take-spec : {M : Type 1} → statement M
 take-spec =

@@ -21,8 +21,11 @@ tell-cancelled-requires c κs = search needs
 
 put-requires : tie.Need-put-requires
 put-requires c κs =
-    let s = c .before .before .before .before .before in
-    roomy-told (c .before .before .tell-cancelled .ensures ∙ ap (cancelled (s .args .why)) (sym (entry-at (s .args .t1) (s .args .i) zeroEntry (s .pre .place .inside)))) (s .pre .roomy)
+    let at-tell-cancelled : tie.After-tell-cancelled = search in
+    let start : tie.Start = search in
+    roomy-told
+    (at-tell-cancelled .tell-cancelled .ensures
+    ∙ ap (cancelled (start .args .why)) (sym (entry-at (start .args .t1) (start .args .i) zeroEntry (start .pre .place .inside)))) (start .pre .roomy)
 
 removed-requires : tie.Need-removed-requires
 removed-requires c κs = search needs
@@ -32,8 +35,13 @@ same-length c = search needs
 
 returns : tie.Need-returns
 returns c =
-    let s = c .before .before .before .before .before .before .before .before .before in
-    staged-go (entriesOf (s .args .t1)) (without (s .args .i) (entriesOf (s .args .t1))) (c .before .before .before .before .before .before .tell-cancelled .ensures ∙ ap (cancelled (s .args .why)) (sym (entry-at (s .args .t1) (s .args .i) zeroEntry (s .pre .place .inside)))) (c .before .before .before .put .ensures) (c .removed .ensures) (omega (arith, without-fits (s .args .t1) (s .args .i) (s .pre .place)))
+    let at-put : tie.After-put = search in
+    let at-tell-cancelled : tie.After-tell-cancelled = search in
+    let start : tie.Start = search in
+    staged-go (entriesOf (start .args .t1)) (without (start .args .i) (entriesOf (start .args .t1)))
+    (at-tell-cancelled .tell-cancelled .ensures
+    ∙ ap (cancelled (start .args .why)) (sym (entry-at (start .args .t1) (start .args .i) zeroEntry (start .pre .place .inside)))) (at-put .put .ensures)
+    (c .removed .ensures) (omega (arith, without-fits (start .args .t1) (start .args .i) (start .pre .place)))
 
 pub cut-at-spec : {M : Type 1} → statement M
 cut-at-spec =

@@ -7,13 +7,21 @@ find-quote-requires : tie.Need-find-quote-requires
 find-quote-requires c κs = search needs
 
 cut-rank-requires : tie.Need-cut-rank-requires
-cut-rank-requires c κs = let s = c .before .before .before .before in quote-cuts (s .args .why) (s .args .party) (s .args .sell) _ (c .before .before .find-quote .ensures) (s .pre)
+cut-rank-requires c κs =
+    let at-find-quote : tie.After-find-quote = search in
+    let start : tie.Start = search in
+    quote-cuts (start .args .why) (start .args .party) (start .args .sell) _ (at-find-quote .find-quote .ensures) (start .pre)
 
 same-length : tie.Need-same-length
 same-length c = search needs
 
 returns : tie.Need-returns
-returns c = let s = c .before .before .before .before .before .before .before in quote-cut (s .args .why) (s .args .party) (s .args .sell) _ (c .before .before .before .before .before .find-quote .ensures) (s .pre .well) (c .before .before .cut-rank .ensures)
+returns c =
+    let at-cut-rank : tie.After-cut-rank = search in
+    let at-find-quote : tie.After-find-quote = search in
+    let start : tie.Start = search in
+    quote-cut (start .args .why) (start .args .party) (start .args .sell) _ (at-find-quote .find-quote .ensures) (start .pre .well)
+    (at-cut-rank .cut-rank .ensures)
 
 pub cut-quote-spec : {M : Type 1} → statement M
 cut-quote-spec = tie.close (tie.spec find-quote-requires cut-rank-requires same-length returns)

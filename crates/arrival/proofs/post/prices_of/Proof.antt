@@ -16,13 +16,26 @@ away-of-requires : tie.Need-away-of-requires
 away-of-requires c κs = search needs
 
 aims-of-requires : tie.Need-aims-of-requires
-aims-of-requires c κs = let s = c .before .before .before .before .before in rw (c .away-of .ensures, c .before .market-of .ensures) (s .pre)
+aims-of-requires c κs =
+    let at-market-of : tie.After-market-of = search in
+    let start : tie.Start = search in
+    rw (c .away-of .ensures, at-market-of .market-of .ensures) (start .pre)
 
 returns : tie.Need-returns
-returns c = rw (← c .before .before .before .before .before .kind-of .ensures, ← c .before .before .before .before .is-sliding .ensures, c .before .before .before .if1 .taken) (c .aims-of .ensures ∙ rw (c .before .away-of .ensures, c .before .before .market-of .ensures, c .before .before .before .before .before .kind-of .ensures) refl)
+returns c =
+    let at-away-of : tie.After-away-of = search in
+    let at-market-of : tie.After-market-of = search in
+    let at-if1 : tie.Then1 = search in
+    let at-is-sliding : tie.After-is-sliding = search in
+    let at-kind-of : tie.After-kind-of = search in
+    rw (← at-kind-of .kind-of .ensures, ← at-is-sliding .is-sliding .ensures, at-if1 .if1 .taken)
+    (c .aims-of .ensures ∙ rw (at-away-of .away-of .ensures, at-market-of .market-of .ensures, at-kind-of .kind-of .ensures) refl)
 
 returns-2 : tie.Need-returns-2
-returns-2 c = rw (← c .before .before .kind-of .ensures, ← c .before .is-sliding .ensures, c .if1 .left)
+returns-2 c =
+    let at-is-sliding : tie.After-is-sliding = search in
+    let at-kind-of : tie.After-kind-of = search in
+    rw (← at-kind-of .kind-of .ensures, ← at-is-sliding .is-sliding .ensures, c .if1 .left)
 
 pub prices-of-spec : {M : Type 1} → statement M
 prices-of-spec =

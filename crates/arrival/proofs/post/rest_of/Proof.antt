@@ -9,7 +9,7 @@ pricing-of-requires : tie.Need-pricing-of-requires
 pricing-of-requires c κs = search needs
 
 returns : tie.Need-returns
-returns c = rw (c .pricing-of .ensures, c .before .kind-of .ensures)
+returns c = let at-kind-of : tie.After-kind-of = search in rw (c .pricing-of .ensures, at-kind-of .kind-of .ensures)
 
 pub rest-of-spec : {M : Type 1} → statement M
 rest-of-spec = tie.close (tie.spec kind-of-requires pricing-of-requires returns)

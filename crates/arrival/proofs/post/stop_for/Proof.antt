@@ -21,11 +21,26 @@ kind-of-requires : tie.Need-kind-of-requires
 kind-of-requires c κs = search needs
 
 stop-of-requires : tie.Need-stop-of-requires
-stop-of-requires c κs = let s = c .before .before .before .before .before in (s .pre .bounds .step, s .pre .steps)
+stop-of-requires c κs = let start : tie.Start = search in (start .pre .bounds .step, start .pre .steps)
 
 returns : tie.Need-returns
 unfolding stopFor
-returns c = c .stop-of .ensures ∙ rw (c .before .kind-of .ensures, c .before .before .away-of .ensures, c .before .before .before .market-of .ensures, c .before .before .before .before .is-barred-21 .ensures, c .before .before .before .before .before .prices-of .ensures, prices-known (c .before .before .before .before .before .before .pre)) refl
+returns c =
+    let at-kind-of : tie.After-kind-of = search in
+    let at-away-of : tie.After-away-of = search in
+    let at-market-of : tie.After-market-of = search in
+    let at-is-barred-21 : tie.After-is-barred-21 = search in
+    let at-prices-of : tie.After-prices-of = search in
+    let start : tie.Start = search in
+    c .stop-of .ensures
+    ∙ rw (
+      at-kind-of .kind-of .ensures,
+      at-away-of .away-of .ensures,
+      at-market-of .market-of .ensures,
+      at-is-barred-21 .is-barred-21 .ensures,
+      at-prices-of .prices-of .ensures,
+      prices-known (start .pre),
+    ) refl
 
 pub stop-for-spec : {M : Type 1} → statement M
 stop-for-spec =

@@ -10,10 +10,13 @@ is-quote-requires : tie.Need-is-quote-requires
 is-quote-requires c κs = search needs
 
 returns-2 : tie.Need-returns-2
-returns-2 c = rw (ne-eqb _ 0 (c .before .before .if1 .left), eq-eqb _ 2 (c .before .if2 .taken)) (c .is-quote .ensures)
+returns-2 c =
+    let at-if2 : tie.Then2 = search in
+    let at-if1 : tie.Else1 = search in
+    rw (ne-eqb _ 0 (at-if1 .if1 .left), eq-eqb _ 2 (at-if2 .if2 .taken)) (c .is-quote .ensures)
 
 returns-3 : tie.Need-returns-3
-returns-3 c = rw (ne-eqb _ 0 (c .before .if1 .left), ne-eqb _ 2 (c .if2 .left))
+returns-3 c = let at-if1 : tie.Else1 = search in rw (ne-eqb _ 0 (at-if1 .if1 .left), ne-eqb _ 2 (c .if2 .left))
 
 pub is-swept-spec : {M : Type 1} → statement M
 is-swept-spec = tie.close (tie.spec returns is-quote-requires returns-2 returns-3)

@@ -14,8 +14,7 @@ abbrev μ-loop : tie.MeasureT-loop
 μ-loop phase room₀ n₀ c₀ room n c = count (swept phase) (entriesOf c)
 
 loop-holds : tie.Need-loop-holds Inv-loop μ-loop
-loop-holds c =
-    sweep-start (c .before .args .phase) (c .before .pre)
+loop-holds c = let start : tie.Start Inv-loop μ-loop = search in sweep-start (start .args .phase) (start .pre)
 
 first-swept-requires : tie.Need-first-swept-requires Inv-loop μ-loop
 first-swept-requires c κs = c .loop .inv .well
@@ -27,24 +26,42 @@ enum-told : tie.Need-enum-told Inv-loop μ-loop
 enum-told c = search needs
 
 same-length : tie.Need-same-length Inv-loop μ-loop
-same-length c =
-    c .before .before .before .loop .inv .going .kept
+same-length c = let at-loop : tie.At-loop Inv-loop μ-loop = search in at-loop .loop .inv .going .kept
 
 returns : tie.Need-returns Inv-loop μ-loop
 returns c =
-    sweep-end (c .before .before .before .before .before .args .phase) (c .before .before .before .loop .inv) (sym (c .enum-told .given .1) ∙ c .before .before .first-swept .ensures)
+    let at-first-swept : tie.After-first-swept Inv-loop μ-loop = search in
+    let at-loop : tie.At-loop Inv-loop μ-loop = search in
+    let start : tie.Start Inv-loop μ-loop = search in
+    sweep-end (start .args .phase) (at-loop .loop .inv) (sym (c .enum-told .given .1) ∙ at-first-swept .first-swept .ensures)
 
 cut-at-requires : tie.Need-cut-at-requires Inv-loop μ-loop
 cut-at-requires c κs =
-    sweep-asks (c .before .before .before .before .before .before .before .before .args .phase) (c .before .before .before .before .before .before .loop .inv) (c .before .before .before .first .given .0 .0) (sym (c .before .before .before .first .given .1) ∙ c .before .before .before .before .before .first-swept .ensures)
+    let at-first : tie.After-first Inv-loop μ-loop = search in
+    let at-first-swept : tie.After-first-swept Inv-loop μ-loop = search in
+    let at-loop : tie.At-loop Inv-loop μ-loop = search in
+    let start : tie.Start Inv-loop μ-loop = search in
+    sweep-asks (start .args .phase) (at-loop .loop .inv) (at-first .first .given .0 .0) (sym (at-first .first .given .1) ∙ at-first-swept .first-swept .ensures)
 
 loop-less : tie.Need-loop-less Inv-loop μ-loop
 loop-less c =
-    sweep-lower (c .before .before .before .before .before .before .before .before .before .before .before .args .phase) (c .before .before .before .before .before .before .before .before .before .loop .inv) (c .before .before .before .before .before .before .first .given .0 .0) (sym (c .before .before .before .before .before .before .first .given .1) ∙ c .before .before .before .before .before .before .before .before .first-swept .ensures) (c .before .before .cut-at .ensures)
+    let at-cut-at : tie.After-cut-at Inv-loop μ-loop = search in
+    let at-first : tie.After-first Inv-loop μ-loop = search in
+    let at-first-swept : tie.After-first-swept Inv-loop μ-loop = search in
+    let at-loop : tie.At-loop Inv-loop μ-loop = search in
+    let start : tie.Start Inv-loop μ-loop = search in
+    sweep-lower (start .args .phase) (at-loop .loop .inv) (at-first .first .given .0 .0)
+    (sym (at-first .first .given .1) ∙ at-first-swept .first-swept .ensures) (at-cut-at .cut-at .ensures)
 
 loop-again : tie.Need-loop-again Inv-loop μ-loop
 loop-again c =
-    sweep-on (c .before .before .before .before .before .before .before .before .before .before .before .args .phase) (c .before .before .before .before .before .before .before .before .before .loop .inv) (c .before .before .before .before .before .before .first .given .0 .0) (sym (c .before .before .before .before .before .before .first .given .1) ∙ c .before .before .before .before .before .before .before .before .first-swept .ensures) (c .before .before .cut-at .ensures)
+    let at-cut-at : tie.After-cut-at Inv-loop μ-loop = search in
+    let at-first : tie.After-first Inv-loop μ-loop = search in
+    let at-first-swept : tie.After-first-swept Inv-loop μ-loop = search in
+    let at-loop : tie.At-loop Inv-loop μ-loop = search in
+    let start : tie.Start Inv-loop μ-loop = search in
+    sweep-on (start .args .phase) (at-loop .loop .inv) (at-first .first .given .0 .0) (sym (at-first .first .given .1) ∙ at-first-swept .first-swept .ensures)
+    (at-cut-at .cut-at .ensures)
 
 pub sweep-all-spec : {M : Type 1} → statement M
 sweep-all-spec =

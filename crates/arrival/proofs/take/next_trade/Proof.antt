@@ -30,13 +30,51 @@ no-trade-requires : tie.Need-no-trade-requires
 no-trade-requires c κs = search needs
 
 returns : tie.Need-returns
-returns c = let s = c .before .before .before .before .before in let l = entriesOf (s .args .t1) in let e = s .args .e in let t = takingOf (s .args .left) (s .args .t1) in let b = bestContra (e .sell) (shownOnly e) l in no-contra-left (s .args .cap) e t (c .no-trade .result) (rank-none b (sym (c .before .enum-told .given .1) ∙ c .before .before .before .best-contra .ensures ∙ ap (λ (h : Bool). rankOf (bestContra (e .sell) h l)) (c .before .before .before .before .is-shown-only .ensures))) (c .no-trade .ensures .0) (c .no-trade .ensures .1)
+returns c =
+    let at-enum-told : tie.After-enum-told = search in
+    let at-best-contra : tie.After-best-contra = search in
+    let at-is-shown-only : tie.After-is-shown-only = search in
+    let start : tie.Start = search in
+    let l = entriesOf (start .args .t1) in
+    let e = start .args .e in
+    let t = takingOf (start .args .left) (start .args .t1) in
+    let b = bestContra (e .sell) (shownOnly e) l in
+    no-contra-left (start .args .cap) e t (c .no-trade .result)
+    (rank-none b
+    (sym (at-enum-told .enum-told .given .1) ∙ at-best-contra .best-contra .ensures
+    ∙ ap (λ (h : Bool). rankOf (bestContra (e .sell) h l)) (at-is-shown-only .is-shown-only .ensures))) (c .no-trade .ensures .0) (c .no-trade .ensures .1)
 
 mul-entry : tie.Need-mul-entry
-mul-entry c = let s = c .before .before .before .before .before in let l = entriesOf (s .args .t1) in let e = s .args .e in let t = takingOf (s .args .left) (s .args .t1) in let b = bestContra (e .sell) (shownOnly e) l in let r = rank-at (eligible (e .sell) (shownOnly e)) (priority (e .sell)) l b (c .before .best .given .0 .0) (best-tells (e .sell) (shownOnly e) l) (sym (c .before .best .given .1) ∙ c .before .before .before .best-contra .ensures ∙ ap (λ (h : Bool). rankOf (bestContra (e .sell) h l)) (c .before .before .before .before .is-shown-only .ensures)) in omega (arith, r .inside, length-entries (s .args .t1) (s .pre), s .pre .few)
+mul-entry c =
+    let at-best : tie.After-best = search in
+    let at-best-contra : tie.After-best-contra = search in
+    let at-is-shown-only : tie.After-is-shown-only = search in
+    let start : tie.Start = search in
+    let l = entriesOf (start .args .t1) in
+    let e = start .args .e in
+    let t = takingOf (start .args .left) (start .args .t1) in
+    let b = bestContra (e .sell) (shownOnly e) l in
+    let r =
+    rank-at (eligible (e .sell) (shownOnly e)) (priority (e .sell)) l b (at-best .best .given .0 .0) (best-tells (e .sell) (shownOnly e) l)
+    (sym (at-best .best .given .1) ∙ at-best-contra .best-contra .ensures
+    ∙ ap (λ (h : Bool). rankOf (bestContra (e .sell) h l)) (at-is-shown-only .is-shown-only .ensures)) in
+    omega (arith, r .inside, length-entries (start .args .t1) (start .pre), start .pre .few)
 
 element-copy-out-entry : tie.Need-element-copy-out-entry
-element-copy-out-entry c = let s = c .before .before .before .before .before in let l = entriesOf (s .args .t1) in let e = s .args .e in let t = takingOf (s .args .left) (s .args .t1) in let b = bestContra (e .sell) (shownOnly e) l in let r = rank-at (eligible (e .sell) (shownOnly e)) (priority (e .sell)) l b (c .before .best .given .0 .0) (best-tells (e .sell) (shownOnly e) l) (sym (c .before .best .given .1) ∙ c .before .before .before .best-contra .ensures ∙ ap (λ (h : Bool). rankOf (bestContra (e .sell) h l)) (c .before .before .before .before .is-shown-only .ensures)) in omega (arith, r .inside, length-entries (s .args .t1) (s .pre), s .pre .few)
+element-copy-out-entry c =
+    let at-best : tie.After-best = search in
+    let at-best-contra : tie.After-best-contra = search in
+    let at-is-shown-only : tie.After-is-shown-only = search in
+    let start : tie.Start = search in
+    let l = entriesOf (start .args .t1) in
+    let e = start .args .e in
+    let t = takingOf (start .args .left) (start .args .t1) in
+    let b = bestContra (e .sell) (shownOnly e) l in
+    let r =
+    rank-at (eligible (e .sell) (shownOnly e)) (priority (e .sell)) l b (at-best .best .given .0 .0) (best-tells (e .sell) (shownOnly e) l)
+    (sym (at-best .best .given .1) ∙ at-best-contra .best-contra .ensures
+    ∙ ap (λ (h : Bool). rankOf (bestContra (e .sell) h l)) (at-is-shown-only .is-shown-only .ensures)) in
+    omega (arith, r .inside, length-entries (start .args .t1) (start .pre), start .pre .few)
 
 is-reaching-requires : tie.Need-is-reaching-requires
 is-reaching-requires c κs = search needs
@@ -45,13 +83,49 @@ no-trade-requires-2 : tie.Need-no-trade-requires-2
 no-trade-requires-2 c κs = search needs
 
 returns-2 : tie.Need-returns-2
-returns-2 c = let s = c .before .before .before .before .before .before .before .before .before in let l = entriesOf (s .args .t1) in let e = s .args .e in let t = takingOf (s .args .left) (s .args .t1) in let b = bestContra (e .sell) (shownOnly e) l in let r = rank-at (eligible (e .sell) (shownOnly e)) (priority (e .sell)) l b (c .before .before .before .before .before .best .given .0 .0) (best-tells (e .sell) (shownOnly e) l) (sym (c .before .before .before .before .before .best .given .1) ∙ c .before .before .before .before .before .before .before .best-contra .ensures ∙ ap (λ (h : Bool). rankOf (bestContra (e .sell) h l)) (c .before .before .before .before .before .before .before .before .is-shown-only .ensures)) in let i = c .before .before .before .before .before .best .given .0 .0 in let at = entry-at (s .args .t1) i zeroEntry (omega (arith, r .inside, length-entries (s .args .t1) (s .pre))) in out-of-bound (s .args .cap) e t i r (c .no-trade2 .result) (rw (at, ← c .before .before .is-reaching .ensures) (c .before .if1 .taken)) (c .no-trade2 .ensures .0) (c .no-trade2 .ensures .1)
+returns-2 c =
+    let at-if1 : tie.Then1 = search in
+    let at-is-reaching : tie.After-is-reaching = search in
+    let at-best : tie.After-best = search in
+    let at-best-contra : tie.After-best-contra = search in
+    let at-is-shown-only : tie.After-is-shown-only = search in
+    let start : tie.Start = search in
+    let l = entriesOf (start .args .t1) in
+    let e = start .args .e in
+    let t = takingOf (start .args .left) (start .args .t1) in
+    let b = bestContra (e .sell) (shownOnly e) l in
+    let r =
+    rank-at (eligible (e .sell) (shownOnly e)) (priority (e .sell)) l b (at-best .best .given .0 .0) (best-tells (e .sell) (shownOnly e) l)
+    (sym (at-best .best .given .1) ∙ at-best-contra .best-contra .ensures
+    ∙ ap (λ (h : Bool). rankOf (bestContra (e .sell) h l)) (at-is-shown-only .is-shown-only .ensures)) in
+    let i = at-best .best .given .0 .0 in
+    let at = entry-at (start .args .t1) i zeroEntry (omega (arith, r .inside, length-entries (start .args .t1) (start .pre))) in
+    out-of-bound (start .args .cap) e t i r (c .no-trade2 .result) (rw (at, ← at-is-reaching .is-reaching .ensures) (at-if1 .if1 .taken))
+    (c .no-trade2 .ensures .0) (c .no-trade2 .ensures .1)
 
 lesser-requires : tie.Need-lesser-requires
 lesser-requires c κs = search needs
 
 returns-3 : tie.Need-returns-3
-returns-3 c = let s = c .before .before .before .before .before .before .before .before .before in let l = entriesOf (s .args .t1) in let e = s .args .e in let t = takingOf (s .args .left) (s .args .t1) in let b = bestContra (e .sell) (shownOnly e) l in let r = rank-at (eligible (e .sell) (shownOnly e)) (priority (e .sell)) l b (c .before .before .before .before .before .best .given .0 .0) (best-tells (e .sell) (shownOnly e) l) (sym (c .before .before .before .before .before .best .given .1) ∙ c .before .before .before .before .before .before .before .best-contra .ensures ∙ ap (λ (h : Bool). rankOf (bestContra (e .sell) h l)) (c .before .before .before .before .before .before .before .before .is-shown-only .ensures)) in let i = c .before .before .before .before .before .best .given .0 .0 in let at = entry-at (s .args .t1) i zeroEntry (omega (arith, r .inside, length-entries (s .args .t1) (s .pre))) in in-bound (s .args .cap) e t i r (getD (s .args .t1 .entries) i zeroEntry) (c .lesser .result) (sym at) (c .lesser .ensures) (rw (← c .before .before .is-reaching .ensures) (c .before .if1 .left))
+returns-3 c =
+    let at-if1 : tie.Else1 = search in
+    let at-is-reaching : tie.After-is-reaching = search in
+    let at-best : tie.After-best = search in
+    let at-best-contra : tie.After-best-contra = search in
+    let at-is-shown-only : tie.After-is-shown-only = search in
+    let start : tie.Start = search in
+    let l = entriesOf (start .args .t1) in
+    let e = start .args .e in
+    let t = takingOf (start .args .left) (start .args .t1) in
+    let b = bestContra (e .sell) (shownOnly e) l in
+    let r =
+    rank-at (eligible (e .sell) (shownOnly e)) (priority (e .sell)) l b (at-best .best .given .0 .0) (best-tells (e .sell) (shownOnly e) l)
+    (sym (at-best .best .given .1) ∙ at-best-contra .best-contra .ensures
+    ∙ ap (λ (h : Bool). rankOf (bestContra (e .sell) h l)) (at-is-shown-only .is-shown-only .ensures)) in
+    let i = at-best .best .given .0 .0 in
+    let at = entry-at (start .args .t1) i zeroEntry (omega (arith, r .inside, length-entries (start .args .t1) (start .pre))) in
+    in-bound (start .args .cap) e t i r (getD (start .args .t1 .entries) i zeroEntry) (c .lesser .result) (sym at) (c .lesser .ensures)
+    (rw (← at-is-reaching .is-reaching .ensures) (at-if1 .if1 .left))
 
 pub next-trade-spec : {M : Type 1} → statement M
 next-trade-spec =

@@ -18,34 +18,84 @@ abbrev μ-loop : tie.MeasureT-loop
 μ-loop e cap left₀ room₀ n₀ c₀ left room n c = chances (takingOf left c)
 
 loop-holds : tie.Need-loop-holds Inv-loop μ-loop
-loop-holds c = let s = c .before in take-start (s .args .cap) (s .args .e) (s .args .left .now) (s .args .b) (s .args .room .now) (s .args .n .now) (s .pre)
+loop-holds c =
+    let start : tie.Start Inv-loop μ-loop = search in
+    take-start (start .args .cap) (start .args .e) (start .args .left .now) (start .args .b) (start .args .room .now) (start .args .n .now) (start .pre)
 
 next-trade-requires : tie.Need-next-trade-requires Inv-loop μ-loop
 next-trade-requires c κs = search needs
 
 same-length : tie.Need-same-length Inv-loop μ-loop
-same-length c = omega (arith, c .before .before .before .loop .inv .going .kept)
+same-length c = let at-loop : tie.At-loop Inv-loop μ-loop = search in omega (arith, at-loop .loop .inv .going .kept)
 
 returns : tie.Need-returns Inv-loop μ-loop
-returns c = let v = c .before .before .before .loop .inv in let x = c .before .before .next-trade .result in let w = c .before .before .next-trade .ensures in take-done v x w (not-true (x .going) (c .if1 .taken))
+returns c =
+    let at-next-trade : tie.After-next-trade Inv-loop μ-loop = search in
+    let at-loop : tie.At-loop Inv-loop μ-loop = search in
+    let v = at-loop .loop .inv in
+    let x = at-next-trade .next-trade .result in
+    let w = at-next-trade .next-trade .ensures in
+    take-done v x w (not-true (x .going) (c .if1 .taken))
 
 tell-traded-requires : tie.Need-tell-traded-requires Inv-loop μ-loop
 tell-traded-requires c κs = search needs
 
 put-requires : tie.Need-put-requires Inv-loop μ-loop
-put-requires c κs = let v = c .before .before .before .before .before .before .before .loop .inv in let x = c .before .before .before .before .before .before .next-trade .result in let w = c .before .before .before .before .before .before .next-trade .ensures in rw (c .before .before .tell-traded .ensures) (take-room v x w (not-false (x .going) (c .before .before .before .before .if1 .left)))
+put-requires c κs =
+    let at-tell-traded : tie.After-tell-traded Inv-loop μ-loop = search in
+    let at-if1 : tie.Else1 Inv-loop μ-loop = search in
+    let at-next-trade : tie.After-next-trade Inv-loop μ-loop = search in
+    let at-loop : tie.At-loop Inv-loop μ-loop = search in
+    let v = at-loop .loop .inv in
+    let x = at-next-trade .next-trade .result in
+    let w = at-next-trade .next-trade .ensures in
+    rw (at-tell-traded .tell-traded .ensures) (take-room v x w (not-false (x .going) (at-if1 .if1 .left)))
 
 taken-requires : tie.Need-taken-requires Inv-loop μ-loop
-taken-requires c κs = let v = c .before .before .before .before .before .before .before .before .before .before .loop .inv in let x = c .before .before .before .before .before .before .before .before .before .next-trade .result in let w = c .before .before .before .before .before .before .before .before .before .next-trade .ensures in take-place v x w (not-false (x .going) (c .before .before .before .before .before .before .before .if1 .left))
+taken-requires c κs =
+    let at-if1 : tie.Else1 Inv-loop μ-loop = search in
+    let at-next-trade : tie.After-next-trade Inv-loop μ-loop = search in
+    let at-loop : tie.At-loop Inv-loop μ-loop = search in
+    let v = at-loop .loop .inv in
+    let x = at-next-trade .next-trade .result in
+    let w = at-next-trade .next-trade .ensures in
+    take-place v x w (not-false (x .going) (at-if1 .if1 .left))
 
 sub-left : tie.Need-sub-left Inv-loop μ-loop
-sub-left c = let v = c .before .before .before .before .before .before .before .before .before .before .before .before .before .loop .inv in let x = c .before .before .before .before .before .before .before .before .before .before .before .before .next-trade .result in let w = c .before .before .before .before .before .before .before .before .before .before .before .before .next-trade .ensures in w .most
+sub-left c =
+    let at-next-trade : tie.After-next-trade Inv-loop μ-loop = search in
+    let at-loop : tie.At-loop Inv-loop μ-loop = search in
+    let v = at-loop .loop .inv in
+    let x = at-next-trade .next-trade .result in
+    let w = at-next-trade .next-trade .ensures in
+    w .most
 
 loop-less : tie.Need-loop-less Inv-loop μ-loop
-loop-less c = let v = c .before .before .before .before .before .before .before .before .before .before .before .before .before .loop .inv in let x = c .before .before .before .before .before .before .before .before .before .before .before .before .next-trade .result in let w = c .before .before .before .before .before .before .before .before .before .before .before .before .next-trade .ensures in take-less v x w (not-false (x .going) (c .before .before .before .before .before .before .before .before .before .before .if1 .left)) (c .before .before .taken .result) (c .before .before .taken .ensures)
+loop-less c =
+    let at-taken : tie.After-taken Inv-loop μ-loop = search in
+    let at-if1 : tie.Else1 Inv-loop μ-loop = search in
+    let at-next-trade : tie.After-next-trade Inv-loop μ-loop = search in
+    let at-loop : tie.At-loop Inv-loop μ-loop = search in
+    let v = at-loop .loop .inv in
+    let x = at-next-trade .next-trade .result in
+    let w = at-next-trade .next-trade .ensures in
+    take-less v x w (not-false (x .going) (at-if1 .if1 .left)) (at-taken .taken .result) (at-taken .taken .ensures)
 
 loop-again : tie.Need-loop-again Inv-loop μ-loop
-loop-again c = let v = c .before .before .before .before .before .before .before .before .before .before .before .before .before .loop .inv in let x = c .before .before .before .before .before .before .before .before .before .before .before .before .next-trade .result in let w = c .before .before .before .before .before .before .before .before .before .before .before .before .next-trade .ensures in take-on v x w (not-false (x .going) (c .before .before .before .before .before .before .before .before .before .before .if1 .left)) (c .before .before .taken .result) (c .before .before .taken .ensures) (c .before .before .before .before .before .put .last .0) (c .before .before .before .before .before .put .last .1 .0) (c .before .before .before .before .before .put .ensures .bytes ∙ ap (λ (r : Report). written (c .before .before .before .before .before .before .before .before .before .before .before .before .before .loop .room) (c .before .before .before .before .before .before .before .before .before .before .before .before .before .loop .n) (r ∷ [])) (c .before .before .before .before .before .before .before .before .tell-traded .ensures)) (c .before .before .before .before .before .put .ensures .count)
+loop-again c =
+    let at-taken : tie.After-taken Inv-loop μ-loop = search in
+    let at-put : tie.After-put Inv-loop μ-loop = search in
+    let at-tell-traded : tie.After-tell-traded Inv-loop μ-loop = search in
+    let at-if1 : tie.Else1 Inv-loop μ-loop = search in
+    let at-next-trade : tie.After-next-trade Inv-loop μ-loop = search in
+    let at-loop : tie.At-loop Inv-loop μ-loop = search in
+    let v = at-loop .loop .inv in
+    let x = at-next-trade .next-trade .result in
+    let w = at-next-trade .next-trade .ensures in
+    take-on v x w (not-false (x .going) (at-if1 .if1 .left)) (at-taken .taken .result) (at-taken .taken .ensures) (at-put .put .last .0)
+    (at-put .put .last .1 .0)
+    (at-put .put .ensures .bytes ∙ ap (λ (r : Report). written (at-loop .loop .room) (at-loop .loop .n) (r ∷ [])) (at-tell-traded .tell-traded .ensures))
+    (at-put .put .ensures .count)
 
 pub take-all-spec : {M : Type 1} → statement M
 take-all-spec =

@@ -30,21 +30,25 @@ shl-r : tie.Need-shl-r
 shl-r c = search needs
 
 rem-r : tie.Need-rem-r
-rem-r c = rw (one-shl (c .before .before .before .args .w) (omega arith)) (pow-pos (c .before .before .before .args .w))
+rem-r c = let start : tie.Start = search in rw (one-shl (start .args .w) (omega arith)) (pow-pos (start .args .w))
 
 cast-r : tie.Need-cast-r
 cast-r c =
-    let w = c .before .before .before .args .w in
+    let start : tie.Start = search in
+    let w = start .args .w in
     let h : w ≤ 32 = omega arith in
     record { fits = rw (one-shl w h) (lt-of-lt-of-le (mod-lt _ (pow-pos w)) (pow-mono h)) }
 
 returns : tie.Need-returns
 returns c =
-    let a = c .before .before .before .args in
+    let at-back : tie.After-back = search in
+    let at-shared-slice-known : tie.After-shared-slice-known = search in
+    let at-start : tie.Start = search in
+    let a = at-start .args in
     let s : List ℕ = now (a .s) in
-    let b : Bytes s = λ i. c .before .before .shared-slice-known .given i .fits in
+    let b : Bytes s = λ i. at-shared-slice-known .shared-slice-known .given i .fits in
     let q : ℕ = a .after / 8 in
-    let start : ℕ = c .before .back .result in
+    let start : ℕ = at-back .back .result in
     let cnt : ℕ = a .n - q - start in
     let e : start + cnt + q ≡ a .n = omega arith in
     let e' : 8 * q + a .after % 8 ≡ a .after = omega arith in

@@ -23,7 +23,8 @@ loop-holds c = omega arith
 
 mul-acc : tie.Need-mul-acc Inv-loop μ-loop
 mul-acc c =
-    let h : 8 * c .before .loop .i ≤ 56 = omega arith in
+    let at-loop : tie.At-loop Inv-loop μ-loop = search in
+    let h : 8 * at-loop .loop .i ≤ 56 = omega arith in
     omega (arith, pow-mono h)
 
 add-wide : tie.Need-add-wide Inv-loop μ-loop
@@ -37,7 +38,8 @@ wide-requires c κs = search needs
 
 add-acc : tie.Need-add-acc Inv-loop μ-loop
 add-acc c =
-    let h : 8 * c .before .before .before .loop .i ≤ 56 = omega arith in
+    let at-loop : tie.At-loop Inv-loop μ-loop = search in
+    let h : 8 * at-loop .loop .i ≤ 56 = omega arith in
     omega (arith, pow-mono h)
 
 add-i : tie.Need-add-i Inv-loop μ-loop
@@ -48,8 +50,10 @@ loop-less c = search needs
 
 loop-again : tie.Need-loop-again Inv-loop μ-loop
 loop-again c =
-    let l = c .before .before .before .loop in
-    let a = c .before .before .before .before .before .args in
+    let at-loop : tie.At-loop Inv-loop μ-loop = search in
+    let start : tie.Start Inv-loop μ-loop = search in
+    let l = at-loop .loop in
+    let a = start .args in
     let h : l .i < length (drop (a .at) (a .s .now)) = simp length-drop (omega arith) in (
       omega arith,
       rw (add-one, join-snoc (l .i) (drop (a .at) (a .s .now)) h, getD-drop) (omega arith),
@@ -58,8 +62,10 @@ loop-again c =
 
 returns : tie.Need-returns Inv-loop μ-loop
 returns c =
-    let e : c .before .loop .i ≡ c .before .before .before .args .n = omega arith in
-    rw (← e) (c .before .loop .inv .1)
+    let at-loop : tie.At-loop Inv-loop μ-loop = search in
+    let start : tie.Start Inv-loop μ-loop = search in
+    let e : at-loop .loop .i ≡ start .args .n = omega arith in
+    rw (← e) (at-loop .loop .inv .1)
 
 pub load-spec : {M : Type 1} → statement M
 load-spec =

@@ -20,29 +20,36 @@ mul-after c = search needs
 
 loop-holds : tie.Need-loop-holds Inv-loop μ-loop
 loop-holds c =
-    let a = c .before .before .before .args in
+    let start : tie.Start Inv-loop μ-loop = search in
+    let a = start .args in
     reading-start (a .ws .now) (join (bytes (a .n)) (a .s .now)) (a .xs .now) (8 * a .n) (search needs) (search needs)
 
 shared-slice-read-w : tie.Need-shared-slice-read-w Inv-loop μ-loop
 shared-slice-read-w c = search needs
 
 cast-w : tie.Need-cast-w Inv-loop μ-loop
-cast-w c = omega (arith, c .shared-slice-known3 .given (c .before .before .loop .j))
+cast-w c =
+    let at-loop : tie.At-loop Inv-loop μ-loop = search in
+    omega (arith, c .shared-slice-known3 .given (at-loop .loop .j))
 
 sub-after : tie.Need-sub-after Inv-loop μ-loop
 sub-after c =
-    let a = c .before .before .before .before .before .before .args in
-    omega (arith, total-drop (a .ws .now) (c .before .before .loop .j) (omega arith))
+    let at-loop : tie.At-loop Inv-loop μ-loop = search in
+    let start : tie.Start Inv-loop μ-loop = search in
+    let a = start .args in
+    omega (arith, total-drop (a .ws .now) (at-loop .loop .j) (omega arith))
 
 field-requires : tie.Need-field-requires Inv-loop μ-loop
 field-requires c κs =
-    let a = c .before .before .before .before .before .before .args in
-    let j : ℕ = c .before .before .loop .j in
+    let at-loop : tie.At-loop Inv-loop μ-loop = search in
+    let start : tie.Start Inv-loop μ-loop = search in
+    let a = start .args in
+    let j : ℕ = at-loop .loop .j in
     omega (
       arith,
       total-drop (a .ws .now) j (omega arith),
       total-drop-le (a .ws .now) j,
-      narrow-at (a .ws .now) j (c .before .before .before .before .before .before .pre .3) (omega arith),
+      narrow-at (a .ws .now) j (start .pre .3) (omega arith),
     )
 
 mul-xs : tie.Need-mul-xs Inv-loop μ-loop
@@ -59,8 +66,10 @@ loop-less c = search needs
 
 loop-again : tie.Need-loop-again Inv-loop μ-loop
 loop-again c =
-    let a = c .before .before .before .before .before .before .before .args in
-    let l = c .before .before .before .loop in
+    let at-loop : tie.At-loop Inv-loop μ-loop = search in
+    let start : tie.Start Inv-loop μ-loop = search in
+    let a = start .args in
+    let l = at-loop .loop in
     reading-step (a .ws .now) (join (bytes (a .n)) (a .s .now)) (l .xs) (l .after) (l .j) (c .field .result) (l .inv)
     (omega arith) (c .field .ensures .0)
 
@@ -69,8 +78,10 @@ same-length c = search needs
 
 returns : tie.Need-returns Inv-loop μ-loop
 returns c =
-    let a = c .before .before .before .before .before .args in
-    let l = c .before .loop in
+    let at-loop : tie.At-loop Inv-loop μ-loop = search in
+    let start : tie.Start Inv-loop μ-loop = search in
+    let a = start .args in
+    let l = at-loop .loop in
     let e : l .j ≡ length (a .ws .now) = omega arith in
     reading-done (a .ws .now) (join (bytes (a .n)) (a .s .now)) (l .xs) (l .after) (rw e at (l .inv))
 

@@ -26,12 +26,15 @@ shared-slice-read-w : tie.Need-shared-slice-read-w Inv-loop μ-loop
 shared-slice-read-w c = search needs
 
 cast-w : tie.Need-cast-w Inv-loop μ-loop
-cast-w c = omega (arith, c .shared-slice-known .given (c .before .before .loop .j))
+cast-w c =
+    let at-loop : tie.At-loop Inv-loop μ-loop = search in
+    omega (arith, c .shared-slice-known .given (at-loop .loop .j))
 
 shl-bound : tie.Need-shl-bound Inv-loop μ-loop
 shl-bound c =
-    let s = c .before .before .before in
-    omega (arith, narrow-at (s .args .ws .now) (c .before .before .loop .j) (s .pre .0) (omega arith))
+    let at-loop : tie.At-loop Inv-loop μ-loop = search in
+    let start : tie.Start Inv-loop μ-loop = search in
+    omega (arith, narrow-at (start .args .ws .now) (at-loop .loop .j) (start .pre .0) (omega arith))
 
 mul-x : tie.Need-mul-x Inv-loop μ-loop
 mul-x c = search needs
@@ -40,15 +43,18 @@ shared-slice-read-x : tie.Need-shared-slice-read-x Inv-loop μ-loop
 shared-slice-read-x c = search needs
 
 cast-x : tie.Need-cast-x Inv-loop μ-loop
-cast-x c = omega (arith, c .shared-slice-known2 .given (c .before .before .before .loop .j))
+cast-x c =
+    let at-loop : tie.At-loop Inv-loop μ-loop = search in
+    omega (arith, c .shared-slice-known2 .given (at-loop .loop .j))
 
 returns : tie.Need-returns Inv-loop μ-loop
 returns c =
-    let s = c .before .before .before .before .before in
-    let ws = s .args .ws .now in
-    let xs = s .args .xs .now in
-    let l = c .before .before .before .before .loop in
-    let n : getD ws (l .j) 0 ≤ 32 = narrow-at ws (l .j) (s .pre .0) (omega arith) in
+    let at-loop : tie.At-loop Inv-loop μ-loop = search in
+    let start : tie.Start Inv-loop μ-loop = search in
+    let ws = start .args .ws .now in
+    let xs = start .args .xs .now in
+    let l = at-loop .loop in
+    let n : getD ws (l .j) 0 ≤ 32 = narrow-at ws (l .j) (start .pre .0) (omega arith) in
     rw (l .inv .1, allFit-step ws xs (l .j) (omega arith) (omega arith), le-ltb _ _ (rw (one-shl (getD ws (l .j) 0) n) at (c .if1 .taken)))
 
 add-j : tie.Need-add-j Inv-loop μ-loop
@@ -59,19 +65,22 @@ loop-less c = search needs
 
 loop-again : tie.Need-loop-again Inv-loop μ-loop
 loop-again c =
-    let s = c .before .before .before .before .before in
-    let ws = s .args .ws .now in
-    let xs = s .args .xs .now in
-    let l = c .before .before .before .before .loop in
-    let n : getD ws (l .j) 0 ≤ 32 = narrow-at ws (l .j) (s .pre .0) (omega arith) in (
+    let at-loop : tie.At-loop Inv-loop μ-loop = search in
+    let start : tie.Start Inv-loop μ-loop = search in
+    let ws = start .args .ws .now in
+    let xs = start .args .xs .now in
+    let l = at-loop .loop in
+    let n : getD ws (l .j) 0 ≤ 32 = narrow-at ws (l .j) (start .pre .0) (omega arith) in (
       omega arith,
       rw (l .inv .1, allFit-step ws xs (l .j) (omega arith) (omega arith), lt-ltb _ _ (rw (one-shl (getD ws (l .j) 0) n) at (c .if1 .left)), add-one),
     )
 
 returns-2 : tie.Need-returns-2 Inv-loop μ-loop
 returns-2 c =
-    let a = c .before .before .args in
-    let l = c .before .loop in
+    let at-loop : tie.At-loop Inv-loop μ-loop = search in
+    let start : tie.Start Inv-loop μ-loop = search in
+    let a = start .args in
+    let l = at-loop .loop in
     let e : l .j ≡ length (a .ws .now) = omega arith in
     let f : l .j ≡ length (a .xs .now) = omega arith in
     sym

@@ -21,7 +21,8 @@ shl-m c = search needs
 
 loop-holds : tie.Need-loop-holds Inv-loop μ-loop
 loop-holds c =
-    shift-start (c .before .args .out .now) (c .before .args .w) (c .before .args .x) (λ i. c .slice-known .given i .fits) (search needs)
+    let start : tie.Start Inv-loop μ-loop = search in
+    shift-start (start .args .out .now) (start .args .w) (start .args .x) (λ i. c .slice-known .given i .fits) (search needs)
 
 sub-i : tie.Need-sub-i Inv-loop μ-loop
 sub-i c = search needs
@@ -34,13 +35,15 @@ wide-requires c κs = search needs
 
 mul-t : tie.Need-mul-t Inv-loop μ-loop
 mul-t c =
-    let w = c .before .before .before .before .before .args .w in
+    let start : tie.Start Inv-loop μ-loop = search in
+    let w = start .args .w in
     let h : w ≤ 32 = omega arith in
     record { fits = rw (one-shl w h) (omega (arith, mul-le-mul-right (2 ^ w) (le-pred-of-lt (c .wide .ensures .1)), pow-mono h)) }
 
 add-t : tie.Need-add-t Inv-loop μ-loop
 add-t c =
-    let w = c .before .before .before .before .before .args .w in
+    let start : tie.Start Inv-loop μ-loop = search in
+    let w = start .args .w in
     let h : w ≤ 32 = omega arith in
     record { fits = rw (one-shl w h) (omega (arith, mul-le-mul-right (2 ^ w) (le-pred-of-lt (c .wide .ensures .1)), pow-mono h)) }
 
@@ -55,8 +58,10 @@ loop-less c = search needs
 
 loop-again : tie.Need-loop-again Inv-loop μ-loop
 loop-again c =
-    let a = c .before .before .before .before .before .args in
-    let l = c .before .before .before .loop in
+    let at-loop : tie.At-loop Inv-loop μ-loop = search in
+    let start : tie.Start Inv-loop μ-loop = search in
+    let a = start .args in
+    let l = at-loop .loop in
     let h : a .w ≤ 32 = omega arith in
     let e : l .i ≡ suc (l .i - 1) = omega arith in
     let t : ℕ = c .wide .result * (1 * 2 ^ a .w % 2 ^ 64) + l .carry in
@@ -68,8 +73,10 @@ same-length c = search needs
 
 returns : tie.Need-returns Inv-loop μ-loop
 returns c =
-    let a = c .before .before .before .args in
-    let l = c .before .loop in
+    let at-loop : tie.At-loop Inv-loop μ-loop = search in
+    let start : tie.Start Inv-loop μ-loop = search in
+    let a = start .args in
+    let l = at-loop .loop in
     let e : l .i ≡ 0 = omega arith in
     (shift-done (a .out .now) (a .w) (a .x) (l .out) (l .carry) (rw e at (l .inv)), l .inv .ok)
 

@@ -18,14 +18,18 @@ abbrev μ-loop : tie.MeasureT-loop
 
 loop-holds : tie.Need-loop-holds Inv-loop μ-loop
 loop-holds c =
-    let a = c .before .before .before .args in
-    writing-start (a .ws .now) (a .xs .now) (a .out .now) (λ i. c .before .before .slice-known .given i .fits)
+    let at-slice-known : tie.After-slice-known Inv-loop μ-loop = search in
+    let start : tie.Start Inv-loop μ-loop = search in
+    let a = start .args in
+    writing-start (a .ws .now) (a .xs .now) (a .out .now) (λ i. at-slice-known .slice-known .given i .fits)
 
 shared-slice-read-w : tie.Need-shared-slice-read-w Inv-loop μ-loop
 shared-slice-read-w c = search needs
 
 cast-w : tie.Need-cast-w Inv-loop μ-loop
-cast-w c = omega (arith, c .shared-slice-known3 .given (c .before .before .loop .j))
+cast-w c =
+    let at-loop : tie.At-loop Inv-loop μ-loop = search in
+    omega (arith, c .shared-slice-known3 .given (at-loop .loop .j))
 
 mul-put : tie.Need-mul-put Inv-loop μ-loop
 mul-put c = search needs
@@ -35,8 +39,9 @@ shared-slice-read-put c = search needs
 
 put-requires : tie.Need-put-requires Inv-loop μ-loop
 put-requires c κs =
-    let s = c .before .before .before .before .before .before .before .before in
-    narrow-at (s .args .ws .now) (c .before .before .before .before .loop .j) (s .pre .1) (omega arith)
+    let at-loop : tie.At-loop Inv-loop μ-loop = search in
+    let start : tie.Start Inv-loop μ-loop = search in
+    narrow-at (start .args .ws .now) (at-loop .loop .j) (start .pre .1) (omega arith)
 
 add-j : tie.Need-add-j Inv-loop μ-loop
 add-j c = search needs
@@ -46,22 +51,25 @@ loop-less c = search needs
 
 loop-again : tie.Need-loop-again Inv-loop μ-loop
 loop-again c =
-    let s = c .before .before .before .before .before .before .before .before .before .before .before in
-    let a = s .args in
-    let l = c .before .before .before .before .before .before .before .loop in
-    writing-step (a .ws .now) (a .xs .now) (a .out .now) (l .out) (c .before .before .put .last .0) (l .j) (l .inv)
-    (omega arith) (s .pre .2) (c .before .before .put .kept .0) (c .before .before .put .ensures .0) (c .before .before .put .ensures .1)
+    let at-put : tie.After-put Inv-loop μ-loop = search in
+    let at-loop : tie.At-loop Inv-loop μ-loop = search in
+    let start : tie.Start Inv-loop μ-loop = search in
+    let a = start .args in
+    let l = at-loop .loop in
+    writing-step (a .ws .now) (a .xs .now) (a .out .now) (l .out) (at-put .put .last .0) (l .j) (l .inv)
+    (omega arith) (start .pre .2) (at-put .put .kept .0) (at-put .put .ensures .0) (at-put .put .ensures .1)
 
 same-length : tie.Need-same-length Inv-loop μ-loop
 same-length c = search needs
 
 returns : tie.Need-returns Inv-loop μ-loop
 returns c =
-    let s = c .before .before .before .before .before in
-    let a = s .args in
-    let l = c .before .loop in
+    let at-loop : tie.At-loop Inv-loop μ-loop = search in
+    let start : tie.Start Inv-loop μ-loop = search in
+    let a = start .args in
+    let l = at-loop .loop in
     let e : l .j ≡ length (a .ws .now) = omega arith in
-    written (a .ws .now) (a .xs .now) (l .out) (length (a .out .now)) (value (a .out .now)) (l .inv .same) (l .inv .ok) (s .pre .0)
+    written (a .ws .now) (a .xs .now) (l .out) (length (a .out .now)) (value (a .out .now)) (l .inv .same) (l .inv .ok) (start .pre .0)
     (writing-done (a .ws .now) (a .xs .now) (a .out .now) (l .out) (rw e at (l .inv)))
 
 pub write-all-spec : {M : Type 1} → statement M

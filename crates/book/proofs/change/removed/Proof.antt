@@ -17,10 +17,26 @@ requeued-requires : tie.Need-requeued-requires
 requeued-requires c κs = search needs
 
 sub-c : tie.Need-sub-c
-sub-c c = let s = c .before .before .before in let e = c .before .before .zero-entry .result in omega (arith, holds (c .before .requeued .ensures) (requeue-fits (s .args .b) (s .args .i) e (s .pre)) .size, length-snoc (without (s .args .i) (entriesOf (s .args .b))) e)
+sub-c c =
+    let at-requeued : tie.After-requeued = search in
+    let at-zero-entry : tie.After-zero-entry = search in
+    let start : tie.Start = search in
+    let e = at-zero-entry .zero-entry .result in
+    omega (
+      arith,
+      holds (at-requeued .requeued .ensures) (requeue-fits (start .args .b) (start .args .i) e (start .pre)) .size,
+      length-snoc (without (start .args .i) (entriesOf (start .args .b))) e,
+    )
 
 returns : tie.Need-returns
-returns c = let s = c .before .before .before in drops (c .before .requeued .result) (without (s .args .i) (entriesOf (s .args .b))) (c .before .requeued .ensures ∙ ap (λ (e : Entry). bookOf (requeue (s .args .i) e (entriesOf (s .args .b)))) (c .before .before .zero-entry .ensures)) (without-fits (s .args .b) (s .args .i) (s .pre))
+returns c =
+    let at-requeued : tie.After-requeued = search in
+    let at-zero-entry : tie.After-zero-entry = search in
+    let start : tie.Start = search in
+    drops (at-requeued .requeued .result) (without (start .args .i) (entriesOf (start .args .b)))
+    (at-requeued .requeued .ensures
+    ∙ ap (λ (e : Entry). bookOf (requeue (start .args .i) e (entriesOf (start .args .b)))) (at-zero-entry .zero-entry .ensures))
+    (without-fits (start .args .b) (start .args .i) (start .pre))
 
 pub removed-spec : {M : Type 1} → statement M
 removed-spec = tie.close (tie.spec zero-entry-requires requeued-requires sub-c returns)

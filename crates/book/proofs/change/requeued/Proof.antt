@@ -42,7 +42,11 @@ loop-less : tie.Need-loop-less Inv-loop μ-loop
 loop-less c = search needs
 
 loop-again : tie.Need-loop-again Inv-loop μ-loop
-loop-again c = let v = c .before .before .loop .inv in (omega arith, (v .1 .0, close-more _ _ _ _ _ zeroEntry (v .1 .1) (omega (arith, c .before .before .before .pre)) (omega arith)))
+loop-again c =
+    let at-loop : tie.At-loop Inv-loop μ-loop = search in
+    let start : tie.Start Inv-loop μ-loop = search in
+    let v = at-loop .loop .inv in
+    (omega arith, (v .1 .0, close-more _ _ _ _ _ zeroEntry (v .1 .1) (omega (arith, start .pre)) (omega arith)))
 
 mul-e : tie.Need-mul-e Inv-loop μ-loop
 mul-e c = search needs
@@ -51,7 +55,12 @@ element-set-from-e : tie.Need-element-set-from-e Inv-loop μ-loop
 element-set-from-e c = search needs
 
 returns : tie.Need-returns Inv-loop μ-loop
-returns c = let s = c .before .before in let v = c .before .loop .inv in requeues (s .args .t1) (s .args .i) (c .before .loop .j) (c .before .loop .b .count) (c .before .loop .b .entries) (s .args .e) (s .pre) (omega arith) (v .1 .0) (v .1 .1)
+returns c =
+    let at-loop : tie.At-loop Inv-loop μ-loop = search in
+    let start : tie.Start Inv-loop μ-loop = search in
+    let v = at-loop .loop .inv in
+    requeues (start .args .t1) (start .args .i) (at-loop .loop .j) (at-loop .loop .b .count) (at-loop .loop .b .entries) (start .args .e) (start .pre)
+    (omega arith) (v .1 .0) (v .1 .1)
 
 pub requeued-spec : {M : Type 1} → statement M
 requeued-spec =

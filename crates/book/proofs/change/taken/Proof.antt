@@ -15,7 +15,10 @@ removed-requires : tie.Need-removed-requires
 removed-requires c κs = search needs
 
 returns : tie.Need-returns
-returns c = let s = c .before .before .before .before in c .removed .ensures ∙ ap bookOf (takes-all (s .args .t1) (s .args .i) (s .args .quantity) (s .pre) (c .before .if1 .taken))
+returns c =
+    let at-if1 : tie.Then1 = search in
+    let start : tie.Start = search in
+    c .removed .ensures ∙ ap bookOf (takes-all (start .args .t1) (start .args .i) (start .args .quantity) (start .pre) (at-if1 .if1 .taken))
 
 sub-e : tie.Need-sub-e
 sub-e c = search needs
@@ -24,7 +27,10 @@ standing-requires : tie.Need-standing-requires
 standing-requires c κs = search needs
 
 returns-2 : tie.Need-returns-2
-returns-2 c = let s = c .before .before .before .before .before in c .standing .ensures ∙ takes-some (s .args .t1) (s .args .i) (s .args .quantity) (s .pre) (c .before .before .if1 .left)
+returns-2 c =
+    let at-if1 : tie.Else1 = search in
+    let start : tie.Start = search in
+    c .standing .ensures ∙ takes-some (start .args .t1) (start .args .i) (start .args .quantity) (start .pre) (at-if1 .if1 .left)
 
 pub taken-spec : {M : Type 1} → statement M
 taken-spec =

@@ -12,21 +12,60 @@ taken-requires : tie.Need-taken-requires
 taken-requires c κs = search needs
 
 taken-requires-2 : tie.Need-taken-requires-2
-taken-requires-2 c κs = let s = c .before .before in let d = holds (c .taken .ensures) (hit-fits (s .args .b) (s .args .j) (s .args .quantity) (s .pre .well)) in record { well = d .well; inside = omega (arith, d .size, length-hit (s .args .j) (s .args .quantity) (entriesOf (s .args .b)), length-entries (s .args .b) (s .pre .well), s .pre .two) }
+taken-requires-2 c κs =
+    let start : tie.Start = search in
+    let d = holds (c .taken .ensures) (hit-fits (start .args .b) (start .args .j) (start .args .quantity) (start .pre .well)) in
+    record {
+      well = d .well;
+      inside =
+          omega (
+            arith,
+            d .size,
+            length-hit (start .args .j) (start .args .quantity) (entriesOf (start .args .b)),
+            length-entries (start .args .b) (start .pre .well),
+            start .pre .two,
+          );
+    }
 
 returns : tie.Need-returns
 unfolding hitBoth
-returns c = let s = c .before .before .before in let d = holds (c .before .taken .ensures) (hit-fits (s .args .b) (s .args .j) (s .args .quantity) (s .pre .well)) in rw (lt-ltb _ _ (c .before .before .if1 .taken), ← d .list) (c .taken2 .ensures)
+returns c =
+    let at-taken : tie.After-taken = search in
+    let at-if1 : tie.Then1 = search in
+    let start : tie.Start = search in
+    let d = holds (at-taken .taken .ensures) (hit-fits (start .args .b) (start .args .j) (start .args .quantity) (start .pre .well)) in
+    rw (lt-ltb _ _ (at-if1 .if1 .taken), ← d .list) (c .taken2 .ensures)
 
 taken-requires-3 : tie.Need-taken-requires-3
 taken-requires-3 c κs = search needs
 
 taken-requires-4 : tie.Need-taken-requires-4
-taken-requires-4 c κs = let s = c .before .before in let d = holds (c .taken3 .ensures) (hit-fits (s .args .b) (s .args .i) (s .args .quantity) (s .pre .well)) in record { well = d .well; inside = omega (arith, d .size, length-hit (s .args .i) (s .args .quantity) (entriesOf (s .args .b)), length-entries (s .args .b) (s .pre .well), s .pre .one, s .pre .apart, c .before .if1 .left) }
+taken-requires-4 c κs =
+    let at-if1 : tie.Else1 = search in
+    let start : tie.Start = search in
+    let d = holds (c .taken3 .ensures) (hit-fits (start .args .b) (start .args .i) (start .args .quantity) (start .pre .well)) in
+    record {
+      well = d .well;
+      inside =
+          omega (
+            arith,
+            d .size,
+            length-hit (start .args .i) (start .args .quantity) (entriesOf (start .args .b)),
+            length-entries (start .args .b) (start .pre .well),
+            start .pre .one,
+            start .pre .apart,
+            at-if1 .if1 .left,
+          );
+    }
 
 returns-2 : tie.Need-returns-2
 unfolding hitBoth
-returns-2 c = let s = c .before .before .before in let d = holds (c .before .taken3 .ensures) (hit-fits (s .args .b) (s .args .i) (s .args .quantity) (s .pre .well)) in rw (le-ltb _ _ (c .before .before .if1 .left), ← d .list) (c .taken4 .ensures)
+returns-2 c =
+    let at-taken3 : tie.After-taken3 = search in
+    let at-if1 : tie.Else1 = search in
+    let start : tie.Start = search in
+    let d = holds (at-taken3 .taken3 .ensures) (hit-fits (start .args .b) (start .args .i) (start .args .quantity) (start .pre .well)) in
+    rw (le-ltb _ _ (at-if1 .if1 .left), ← d .list) (c .taken4 .ensures)
 
 pub traded-spec : {M : Type 1} → statement M
 traded-spec =

@@ -22,14 +22,24 @@ mul-is-quote-of : tie.Need-mul-is-quote-of Inv-loop μ-loop
 mul-is-quote-of c = search needs
 
 element-copy-out-is-quote-of : tie.Need-element-copy-out-is-quote-of Inv-loop μ-loop
-element-copy-out-is-quote-of c = omega (arith, c .before .before .pre .places, c .before .before .pre .few)
+element-copy-out-is-quote-of c =
+    let start : tie.Start Inv-loop μ-loop = search in
+    omega (arith, start .pre .places, start .pre .few)
 
 is-quote-of-requires : tie.Need-is-quote-of-requires Inv-loop μ-loop
 is-quote-of-requires c κs = search needs
 
 returns : tie.Need-returns Inv-loop μ-loop
 unfolding quoteIn entriesOf
-returns c = let s = c .before .before .before .before .before in ap rankOf (search-hit (quoteOf (s .args .party) (s .args .sell)) (s .args .t1 .entries) (s .args .t1 .count) (c .before .before .before .before .loop .i) zeroEntry (c .before .before .before .before .loop .inv) (omega (arith, s .pre .few, s .pre .places)) (c .before .before .before .loop-test .taken) (sym (c .before .is-quote-of .ensures) ∙ c .if1 .taken))
+returns c =
+    let at-is-quote-of : tie.After-is-quote-of Inv-loop μ-loop = search in
+    let at-loop-test : tie.In-loop Inv-loop μ-loop = search in
+    let at-loop : tie.At-loop Inv-loop μ-loop = search in
+    let start : tie.Start Inv-loop μ-loop = search in
+    ap rankOf
+    (search-hit (quoteOf (start .args .party) (start .args .sell)) (start .args .t1 .entries) (start .args .t1 .count) (at-loop .loop .i) zeroEntry
+    (at-loop .loop .inv) (omega (arith, start .pre .few, start .pre .places)) (at-loop-test .loop-test .taken)
+    (sym (at-is-quote-of .is-quote-of .ensures) ∙ c .if1 .taken))
 
 add-i : tie.Need-add-i Inv-loop μ-loop
 add-i c = search needs
@@ -38,11 +48,23 @@ loop-less : tie.Need-loop-less Inv-loop μ-loop
 loop-less c = search needs
 
 loop-again : tie.Need-loop-again Inv-loop μ-loop
-loop-again c = let s = c .before .before .before .before .before in search-past (quoteOf (s .args .party) (s .args .sell)) (s .args .t1 .entries) (s .args .t1 .count) (c .before .before .before .before .loop .i) zeroEntry (c .before .before .before .before .loop .inv) (omega (arith, s .pre .few, s .pre .places)) (c .before .before .before .loop-test .taken) (sym (c .before .is-quote-of .ensures) ∙ c .if1 .left)
+loop-again c =
+    let at-is-quote-of : tie.After-is-quote-of Inv-loop μ-loop = search in
+    let at-loop-test : tie.In-loop Inv-loop μ-loop = search in
+    let at-loop : tie.At-loop Inv-loop μ-loop = search in
+    let start : tie.Start Inv-loop μ-loop = search in
+    search-past (quoteOf (start .args .party) (start .args .sell)) (start .args .t1 .entries) (start .args .t1 .count) (at-loop .loop .i) zeroEntry
+    (at-loop .loop .inv) (omega (arith, start .pre .few, start .pre .places)) (at-loop-test .loop-test .taken)
+    (sym (at-is-quote-of .is-quote-of .ensures) ∙ c .if1 .left)
 
 returns-2 : tie.Need-returns-2 Inv-loop μ-loop
 unfolding quoteIn entriesOf
-returns-2 c = let s = c .before .before in ap rankOf (search-none (quoteOf (s .args .party) (s .args .sell)) (s .args .t1 .entries) (s .args .t1 .count) (c .before .loop .i) (c .before .loop .inv) (c .loop-test .left))
+returns-2 c =
+    let at-loop : tie.At-loop Inv-loop μ-loop = search in
+    let start : tie.Start Inv-loop μ-loop = search in
+    ap rankOf
+    (search-none (quoteOf (start .args .party) (start .args .sell)) (start .args .t1 .entries) (start .args .t1 .count) (at-loop .loop .i)
+    (at-loop .loop .inv) (c .loop-test .left))
 
 pub find-quote-spec : {M : Type 1} → statement M
 find-quote-spec =

@@ -12,10 +12,15 @@ priority-of-requires : tie.Need-priority-of-requires
 priority-of-requires c κs = search needs
 
 returns : tie.Need-returns
-returns c = (rw (← c .before .before .is-eligible .ensures, c .before .if1 .taken) (c .priority-of .ensures .0), λ _. omega (arith, c .priority-of .ensures))
+returns c =
+    let at-if1 : tie.Then1 = search in
+    let at-is-eligible : tie.After-is-eligible = search in
+    (rw (← at-is-eligible .is-eligible .ensures, at-if1 .if1 .taken) (c .priority-of .ensures .0), λ _. omega (arith, c .priority-of .ensures))
 
 returns-2 : tie.Need-returns-2
-returns-2 c = (rw (← c .before .is-eligible .ensures, c .if1 .left), λ e. clash e (sym (c .before .is-eligible .ensures) ∙ c .if1 .left))
+returns-2 c =
+    let at-is-eligible : tie.After-is-eligible = search in
+    (rw (← at-is-eligible .is-eligible .ensures, c .if1 .left), λ e. clash e (sym (at-is-eligible .is-eligible .ensures) ∙ c .if1 .left))
 
 pub contra-key-spec : {M : Type 1} → statement M
 contra-key-spec = tie.close (tie.spec is-eligible-requires priority-of-requires returns returns-2)

@@ -11,10 +11,17 @@ nearer-of-requires : tie.Need-nearer-of-requires
 nearer-of-requires c κs = search needs
 
 returns : tie.Need-returns
-returns c = rw (← and-true (against (c .before .before .before .args .sell) (c .before .before .before .args .e)), ← c .before .before .is-eligible .ensures, c .before .if1 .taken) (c .nearer-of .ensures)
+returns c =
+    let at-if1 : tie.Then1 = search in
+    let at-is-eligible : tie.After-is-eligible = search in
+    let start : tie.Start = search in
+    rw (← and-true (against (start .args .sell) (start .args .e)), ← at-is-eligible .is-eligible .ensures, at-if1 .if1 .taken) (c .nearer-of .ensures)
 
 returns-2 : tie.Need-returns-2
-returns-2 c = rw (← and-true (against (c .before .before .args .sell) (c .before .before .args .e)), ← c .before .is-eligible .ensures, c .if1 .left)
+returns-2 c =
+    let at-is-eligible : tie.After-is-eligible = search in
+    let start : tie.Start = search in
+    rw (← and-true (against (start .args .sell) (start .args .e)), ← at-is-eligible .is-eligible .ensures, c .if1 .left)
 
 pub contra-turn-spec : {M : Type 1} → statement M
 contra-turn-spec = tie.close (tie.spec is-eligible-requires nearer-of-requires returns returns-2)

@@ -8,7 +8,7 @@ less-requires c κs = search needs
 
 returns : tie.Need-returns
 unfolding cost
-returns c = rw (c .before .if1 .taken) (c .less .ensures)
+returns c = let at-if1 : tie.Then1 = search in rw (at-if1 .if1 .taken) (c .less .ensures)
 
 returns-2 : tie.Need-returns-2
 unfolding cost

@@ -10,7 +10,9 @@ contra-turn-requires-2 : tie.Need-contra-turn-requires-2
 contra-turn-requires-2 c κs = search needs
 
 returns : tie.Need-returns
-returns c = same-front (c .before .contra-turn .ensures) (c .contra-turn2 .ensures)
+returns c =
+    let at-contra-turn : tie.After-contra-turn = search in
+    same-front (at-contra-turn .contra-turn .ensures) (c .contra-turn2 .ensures)
 
 pub front-turn-spec : {M : Type 1} → statement M
 front-turn-spec = tie.close (tie.spec contra-turn-requires contra-turn-requires-2 returns)

@@ -9,7 +9,9 @@ is-displayed-requires : tie.Need-is-displayed-requires
 is-displayed-requires c κs = search needs
 
 returns : tie.Need-returns
-returns c = rw (c .is-displayed .ensures, c .before .is-against .ensures)
+returns c =
+    let at-is-against : tie.After-is-against = search in
+    rw (c .is-displayed .ensures, at-is-against .is-against .ensures)
 
 pub is-eligible-spec : {M : Type 1} → statement M
 is-eligible-spec = tie.close (tie.spec is-against-requires is-displayed-requires returns)

@@ -12,7 +12,10 @@ is-reaching-requires : tie.Need-is-reaching-requires
 is-reaching-requires c κs = search needs
 
 returns : tie.Need-returns
-returns c = rw (c .is-reaching .ensures, c .before .is-displayed .ensures, c .before .before .is-against .ensures)
+returns c =
+    let at-is-displayed : tie.After-is-displayed = search in
+    let at-is-against : tie.After-is-against = search in
+    rw (c .is-reaching .ensures, at-is-displayed .is-displayed .ensures, at-is-against .is-against .ensures)
 
 pub is-hidden-spec : {M : Type 1} → statement M
 is-hidden-spec =

@@ -28,7 +28,14 @@ is-hidden-requires c κs = search needs
 
 returns : tie.Need-returns Inv-loop μ-loop
 unfolding hiddenWithin entriesOf
-returns c = let s = c .before .before .before .before .before in ask-hit (hidden (s .args .sell) (s .args .limit)) (s .args .t1 .entries) (s .args .t1 .count) (c .before .before .before .before .loop .i) zeroEntry (c .before .before .before .before .loop .inv) (omega (arith, s .pre .few, s .pre .places)) (c .before .before .before .loop-test .taken) (sym (c .before .is-hidden .ensures) ∙ c .if1 .taken)
+returns c =
+    let at-is-hidden : tie.After-is-hidden Inv-loop μ-loop = search in
+    let at-loop-test : tie.In-loop Inv-loop μ-loop = search in
+    let at-loop : tie.At-loop Inv-loop μ-loop = search in
+    let start : tie.Start Inv-loop μ-loop = search in
+    ask-hit (hidden (start .args .sell) (start .args .limit)) (start .args .t1 .entries) (start .args .t1 .count) (at-loop .loop .i) zeroEntry
+    (at-loop .loop .inv) (omega (arith, start .pre .few, start .pre .places)) (at-loop-test .loop-test .taken)
+    (sym (at-is-hidden .is-hidden .ensures) ∙ c .if1 .taken)
 
 add-i : tie.Need-add-i Inv-loop μ-loop
 add-i c = search needs
@@ -37,11 +44,22 @@ loop-less : tie.Need-loop-less Inv-loop μ-loop
 loop-less c = search needs
 
 loop-again : tie.Need-loop-again Inv-loop μ-loop
-loop-again c = let s = c .before .before .before .before .before in ask-past (hidden (s .args .sell) (s .args .limit)) (s .args .t1 .entries) (s .args .t1 .count) (c .before .before .before .before .loop .i) zeroEntry (c .before .before .before .before .loop .inv) (omega (arith, s .pre .few, s .pre .places)) (c .before .before .before .loop-test .taken) (sym (c .before .is-hidden .ensures) ∙ c .if1 .left)
+loop-again c =
+    let at-is-hidden : tie.After-is-hidden Inv-loop μ-loop = search in
+    let at-loop-test : tie.In-loop Inv-loop μ-loop = search in
+    let at-loop : tie.At-loop Inv-loop μ-loop = search in
+    let start : tie.Start Inv-loop μ-loop = search in
+    ask-past (hidden (start .args .sell) (start .args .limit)) (start .args .t1 .entries) (start .args .t1 .count) (at-loop .loop .i) zeroEntry
+    (at-loop .loop .inv) (omega (arith, start .pre .few, start .pre .places)) (at-loop-test .loop-test .taken)
+    (sym (at-is-hidden .is-hidden .ensures) ∙ c .if1 .left)
 
 returns-2 : tie.Need-returns-2 Inv-loop μ-loop
 unfolding hiddenWithin entriesOf
-returns-2 c = let s = c .before .before in ask-none (hidden (s .args .sell) (s .args .limit)) (s .args .t1 .entries) (s .args .t1 .count) (c .before .loop .i) (c .before .loop .inv) (c .loop-test .left)
+returns-2 c =
+    let at-loop : tie.At-loop Inv-loop μ-loop = search in
+    let start : tie.Start Inv-loop μ-loop = search in
+    ask-none (hidden (start .args .sell) (start .args .limit)) (start .args .t1 .entries) (start .args .t1 .count) (at-loop .loop .i) (at-loop .loop .inv)
+    (c .loop-test .left)
 
 pub is-hidden-within-spec : {M : Type 1} → statement M
 is-hidden-within-spec =

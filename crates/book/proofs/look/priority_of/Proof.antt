@@ -21,7 +21,10 @@ add-result c = search needs
 
 returns : tie.Need-returns
 unfolding priority
-returns c = (rw (c .hidden-of .ensures .0, c .before .wide .ensures .0, c .before .before .cost-of .ensures), omega (arith, c .hidden-of .ensures, c .before .wide .ensures))
+returns c =
+    let at-wide : tie.After-wide = search in
+    let at-cost-of : tie.After-cost-of = search in
+    (rw (c .hidden-of .ensures .0, at-wide .wide .ensures .0, at-cost-of .cost-of .ensures), omega (arith, c .hidden-of .ensures, at-wide .wide .ensures))
 
 pub priority-of-spec : {M : Type 1} → statement M
 priority-of-spec =

@@ -33,7 +33,11 @@ put-together-requires : tie.Need-put-together-requires
 put-together-requires c κs =
     let at-is-blocking : tie.After-is-blocking = search in
     let start : tie.Start = search in
-    record { maker = λ q. and-left _ _ (sym (at-is-blocking .is-blocking .ensures (entriesOf (start .args .s .book))) ∙ q); party = tests (start .args .s) (start .args .a) (acts-accepted (start .pre .0)) .party; blocks = start .pre .0 .whole .blocks }
+    record {
+      maker = λ q. and-left _ _ (sym (at-is-blocking .is-blocking .ensures (entriesOf (start .args .s .book))) ∙ q);
+      party = tests (start .args .s) (start .args .a) (acts-accepted (start .pre .0)) .party;
+      blocks = start .pre .0 .whole .blocks;
+    }
 
 same-length : tie.Need-same-length
 same-length c = search needs
@@ -45,7 +49,8 @@ returns c =
     let at-act : tie.After-act = search in
     let at-is-blocking : tie.After-is-blocking = search in
     let start : tie.Start = search in
-    accept-done (start .args .s) (start .args .a) (start .pre .0) (start .pre .1) (at-act .act .ensures) _ (at-terms-after .terms-after .ensures) (at-settle-if .settle-if .ensures) _ (at-is-blocking .is-blocking .ensures (entriesOf (start .args .s .book))) _ (c .put-together .ensures)
+    accept-done (start .args .s) (start .args .a) (start .pre .0) (start .pre .1) (at-act .act .ensures) _ (at-terms-after .terms-after .ensures)
+    (at-settle-if .settle-if .ensures) _ (at-is-blocking .is-blocking .ensures (entriesOf (start .args .s .book))) _ (c .put-together .ensures)
 
 pub accept-spec : {M : Type 1} → statement M
 accept-spec =

@@ -23,15 +23,22 @@ returns c =
     let at-refusal-of : tie.After-refusal-of = search in
     let at-ask-of : tie.After-ask-of = search in
     let start : tie.Start = search in
-    rw (sym (at-ask-of .ask-of .ensures)) (judged-refused (start .args .series) _ _ _ (at-refusal-of .refusal-of .ensures) (at-if1 .if1 .taken) _ (c .refused .ensures))
+    rw (sym (at-ask-of .ask-of .ensures))
+    (judged-refused (start .args .series) _ _ _ (at-refusal-of .refusal-of .ensures) (at-if1 .if1 .taken) _ (c .refused .ensures))
 
 accept-requires : tie.Need-accept-requires
 accept-requires c κs =
     let at-if1 : tie.Else1 = search in
     let at-refusal-of : tie.After-refusal-of = search in
     let at-ask-of : tie.After-ask-of = search in
-    let start : tie.Start = search in
-    (record { whole = start .pre .0; kind = rw (at-ask-of .ask-of .ensures) (ask-kind (start .args .event) .0); passes = sym (at-refusal-of .refusal-of .ensures) ∙ at-if1 .if1 .left }, start .pre .1)
+    let start : tie.Start = search in (
+      record {
+        whole = start .pre .0;
+        kind = rw (at-ask-of .ask-of .ensures) (ask-kind (start .args .event) .0);
+        passes = sym (at-refusal-of .refusal-of .ensures) ∙ at-if1 .if1 .left;
+      },
+      start .pre .1,
+    )
 
 same-length : tie.Need-same-length
 same-length c = search needs
@@ -43,7 +50,8 @@ returns-2 c =
     let at-refusal-of : tie.After-refusal-of = search in
     let at-ask-of : tie.After-ask-of = search in
     let start : tie.Start = search in
-    rw (sym (at-ask-of .ask-of .ensures)) (at-accept .accept .ensures ∙ judged-accepted (start .args .series) _ _ (sym (at-refusal-of .refusal-of .ensures) ∙ at-if1 .if1 .left))
+    rw (sym (at-ask-of .ask-of .ensures))
+    (at-accept .accept .ensures ∙ judged-accepted (start .args .series) _ _ (sym (at-refusal-of .refusal-of .ensures) ∙ at-if1 .if1 .left))
 
 pub answer-event-spec : {M : Type 1} → statement M
 answer-event-spec =

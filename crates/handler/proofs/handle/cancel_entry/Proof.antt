@@ -16,7 +16,9 @@ cut-rank-requires c κs =
     let at-find-entry : tie.After-find-entry = search in
     let start : tie.Start = search in
     let l = entriesOf (start .args .b) in
-    rank-cuts (ownEntry (start .args .party) (start .args .entry)) (λ _. 0) (start .args .b) (start .pre .well) 28 (entryOf (start .args .party) (start .args .entry) l) _ (entry-tells l (start .args .party) (start .args .entry)) (at-find-entry .find-entry .ensures) (start .pre .roomy)
+    rank-cuts (ownEntry (start .args .party) (start .args .entry)) (λ _. 0) (start .args .b) (start .pre .well) 28
+    (entryOf (start .args .party) (start .args .entry) l) _ (entry-tells l (start .args .party) (start .args .entry)) (at-find-entry .find-entry .ensures)
+    (start .pre .roomy)
 
 same-length : tie.Need-same-length
 same-length c = search needs
@@ -27,7 +29,10 @@ returns c =
     let at-find-entry : tie.After-find-entry = search in
     let start : tie.Start = search in
     let l = entriesOf (start .args .b) in
-    staged-as (cut-rank (ownEntry (start .args .party) (start .args .entry)) (λ _. 0) (start .args .b) (start .pre .well) 28 (entryOf (start .args .party) (start .args .entry) l) _ (entry-tells l (start .args .party) (start .args .entry)) (at-find-entry .find-entry .ensures)) (at-cut-rank .cut-rank .ensures)
+    staged-as
+    (cut-rank (ownEntry (start .args .party) (start .args .entry)) (λ _. 0) (start .args .b) (start .pre .well) 28
+    (entryOf (start .args .party) (start .args .entry) l) _ (entry-tells l (start .args .party) (start .args .entry)) (at-find-entry .find-entry .ensures))
+    (at-cut-rank .cut-rank .ensures)
 
 pub cancel-entry-spec : {M : Type 1} → statement M
 cancel-entry-spec =

@@ -34,7 +34,8 @@ returns-2 c =
     let start : tie.Start = search in
     let a = start .args in
     let g = at-guard-of .guard-of .ensures in
-    blocking-quote (a .t) (a .a) _ _ (sym (at-is-quoting .is-quoting .ensures) ∙ not-false _ (at-if1 .if1 .left)) (at-is-above-underlying .is-above-underlying .ensures ∙ ap (λ (x : Guard). bars25 x (a .a .sell) (a .a .price)) g)
+    blocking-quote (a .t) (a .a) _ _ (sym (at-is-quoting .is-quoting .ensures) ∙ not-false _ (at-if1 .if1 .left))
+    (at-is-above-underlying .is-above-underlying .ensures ∙ ap (λ (x : Guard). bars25 x (a .a .sell) (a .a .price)) g)
     (c .is-above-strike .ensures ∙ ap (λ (x : Guard). bars26 x (a .a .sell) (a .a .price)) g)
 
 pub is-blocking-spec : {M : Type 1} → statement M

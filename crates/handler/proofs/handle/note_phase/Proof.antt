@@ -17,7 +17,12 @@ sweep-all-requires : tie.Need-sweep-all-requires
 sweep-all-requires c κs =
     let at-put : tie.After-put = search in
     let start : tie.Start = search in
-    record { well = start .pre .well; roomy = roomy-then (Noted ∷ []) (sweep (start .args .phase) (entriesOf (start .args .b)) .records) (start .pre .roomy) _ _ (at-put .put .ensures .bytes) (at-put .put .ensures .count) }
+    record {
+      well = start .pre .well;
+      roomy =
+          roomy-then (Noted ∷ []) (sweep (start .args .phase) (entriesOf (start .args .b)) .records) (start .pre .roomy) _ _ (at-put .put .ensures .bytes)
+          (at-put .put .ensures .count);
+    }
 
 same-length : tie.Need-same-length
 same-length c = search needs

@@ -29,12 +29,15 @@ returns c =
     let at-market-of : tie.After-market-of = search in
     let at-if1 : tie.Then1 = search in
     let start : tie.Start = search in
-    staged-as (ap (λ (k : Market). settled k (entriesOf (start .args .b))) (at-market-of .market-of .ensures) ∙ sym (settled-open (start .args .t) (entriesOf (start .args .b)) (eq-eqb _ _ (at-if1 .if1 .taken)))) (at-settle-open .settle-open .ensures)
+    staged-as
+    (ap (λ (k : Market). settled k (entriesOf (start .args .b))) (at-market-of .market-of .ensures)
+    ∙ sym (settled-open (start .args .t) (entriesOf (start .args .b)) (eq-eqb _ _ (at-if1 .if1 .taken)))) (at-settle-open .settle-open .ensures)
 
 returns-2 : tie.Need-returns-2
 returns-2 c =
     let start : tie.Start = search in
-    staged-as (sym (settled-shut (start .args .t) (entriesOf (start .args .b)) (ne-eqb _ _ (c .if1 .left)))) (staged-none (start .args .b) (start .args .room .now) (start .args .n .now) (start .pre .well))
+    staged-as (sym (settled-shut (start .args .t) (entriesOf (start .args .b)) (ne-eqb _ _ (c .if1 .left))))
+    (staged-none (start .args .b) (start .args .room .now) (start .args .n .now) (start .pre .well))
 
 pub settle-if-spec : {M : Type 1} → statement M
 settle-if-spec =

@@ -27,7 +27,8 @@ returns-2 c =
     let a = start .args in
     let p = start .pre in
     let so = sound-for (p .sound) in
-    staged-as (sym (quiet (so .0) (so .1) (sym (at-is-stirring .is-stirring .ensures) ∙ c .if1 .left))) (staged-none (a .b) (a .room .now) (a .n .now) (p .well))
+    staged-as (sym (quiet (so .0) (so .1) (sym (at-is-stirring .is-stirring .ensures) ∙ c .if1 .left)))
+    (staged-none (a .b) (a .room .now) (a .n .now) (p .well))
 
 pub settle-open-spec : {M : Type 1} → statement M
 settle-open-spec =

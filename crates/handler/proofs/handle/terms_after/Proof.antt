@@ -33,7 +33,8 @@ returns-5 c =
     let at-if2 : tie.Else2 = search in
     let at-if1 : tie.Else1 = search in
     let start : tie.Start = search in
-    terms-same (start .args .t) (start .args .a) (sym (at-is-entering .is-entering .ensures) ∙ at-if1 .if1 .left) (at-if2 .if2 .left) (at-if3 .if3 .left) (c .if4 .left)
+    terms-same (start .args .t) (start .args .a) (sym (at-is-entering .is-entering .ensures) ∙ at-if1 .if1 .left) (at-if2 .if2 .left) (at-if3 .if3 .left)
+    (c .if4 .left)
 
 pub terms-after-spec : {M : Type 1} → statement M
 terms-after-spec =

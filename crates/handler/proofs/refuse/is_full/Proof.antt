@@ -33,7 +33,9 @@ returns-3 c =
     let at-if2 : tie.Else2 = search in
     let at-if1 : tie.Else1 = search in
     let start : tie.Start = search in
-    full-order (entriesOf (start .args .b)) (start .args .a) (sym (at-is-entering .is-entering .ensures) ∙ not-false _ (at-if1 .if1 .left)) (omega (arith, length-entries (start .args .b) (start .pre .1 .0), at-if2 .if2 .left)) (sym (at-is-quoting .is-quoting .ensures) ∙ not-true _ (c .if3 .taken))
+    full-order (entriesOf (start .args .b)) (start .args .a) (sym (at-is-entering .is-entering .ensures) ∙ not-false _ (at-if1 .if1 .left))
+    (omega (arith, length-entries (start .args .b) (start .pre .1 .0), at-if2 .if2 .left))
+    (sym (at-is-quoting .is-quoting .ensures) ∙ not-true _ (c .if3 .taken))
 
 cast-party : tie.Need-cast-party
 cast-party c =
@@ -57,7 +59,8 @@ returns-4 c =
     let start : tie.Start = search in
     let p = quote-party (start .args .a) (sym (at-is-quoting .is-quoting .ensures) ∙ not-false _ (at-if3 .if3 .left)) (start .pre .0) in
     ap not (c .has-quote .ensures) ∙ seat-empty (start .pre .1 .1) (start .args .a .party) (start .args .a .sell) (p .0) (p .1)
-    ∙ full-quote (entriesOf (start .args .b)) (start .args .a) (omega (arith, length-entries (start .args .b) (start .pre .1 .0), at-if2 .if2 .left)) (sym (at-is-quoting .is-quoting .ensures) ∙ not-false _ (at-if3 .if3 .left))
+    ∙ full-quote (entriesOf (start .args .b)) (start .args .a) (omega (arith, length-entries (start .args .b) (start .pre .1 .0), at-if2 .if2 .left))
+    (sym (at-is-quoting .is-quoting .ensures) ∙ not-false _ (at-if3 .if3 .left))
 
 pub is-full-spec : {M : Type 1} → statement M
 is-full-spec =

@@ -28,7 +28,9 @@ returns c =
     let at-find-entry : tie.After-find-entry = search in
     let at-if1 : tie.Then1 = search in
     let start : tie.Start = search in
-    rw (at-if1 .if1 .taken) (c .is-gone .ensures ∙ ap goneAt (at-find-entry .find-entry .ensures) ∙ gone (entryOf (start .args .a .party) (start .args .a .entry) (entriesOf (start .args .b))))
+    rw (at-if1 .if1 .taken)
+    (c .is-gone .ensures ∙ ap goneAt (at-find-entry .find-entry .ensures)
+    ∙ gone (entryOf (start .args .a .party) (start .args .a .entry) (entriesOf (start .args .b))))
 
 cast-party-2 : tie.Need-cast-party-2
 cast-party-2 c =

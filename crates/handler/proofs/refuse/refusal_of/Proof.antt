@@ -35,7 +35,11 @@ returns-3 c =
     let at-is-bad-price : tie.After-is-bad-price = search in
     let at-if1 : tie.Else1 = search in
     let at-is-bad-party : tie.After-is-bad-party = search in
-    rw (sym (at-is-bad-party .is-bad-party .ensures) ∙ at-if1 .if1 .left, sym (at-is-bad-price .is-bad-price .ensures) ∙ at-if2 .if2 .left, sym (at-is-bad-quantity .is-bad-quantity .ensures) ∙ c .if3 .taken)
+    rw (
+      sym (at-is-bad-party .is-bad-party .ensures) ∙ at-if1 .if1 .left,
+      sym (at-is-bad-price .is-bad-price .ensures) ∙ at-if2 .if2 .left,
+      sym (at-is-bad-quantity .is-bad-quantity .ensures) ∙ c .if3 .taken,
+    )
 
 is-not-open-requires : tie.Need-is-not-open-requires
 is-not-open-requires c κs = search needs
@@ -50,7 +54,12 @@ returns-4 c =
     let at-is-bad-price : tie.After-is-bad-price = search in
     let at-if1 : tie.Else1 = search in
     let at-is-bad-party : tie.After-is-bad-party = search in
-    rw (sym (at-is-bad-party .is-bad-party .ensures) ∙ at-if1 .if1 .left, sym (at-is-bad-price .is-bad-price .ensures) ∙ at-if2 .if2 .left, sym (at-is-bad-quantity .is-bad-quantity .ensures) ∙ at-if3 .if3 .left, sym (at-is-not-open .is-not-open .ensures) ∙ c .if4 .taken)
+    rw (
+      sym (at-is-bad-party .is-bad-party .ensures) ∙ at-if1 .if1 .left,
+      sym (at-is-bad-price .is-bad-price .ensures) ∙ at-if2 .if2 .left,
+      sym (at-is-bad-quantity .is-bad-quantity .ensures) ∙ at-if3 .if3 .left,
+      sym (at-is-not-open .is-not-open .ensures) ∙ c .if4 .taken,
+    )
 
 is-blocked-requires : tie.Need-is-blocked-requires
 is-blocked-requires c κs =
@@ -71,7 +80,13 @@ returns-5 c =
     let at-is-bad-price : tie.After-is-bad-price = search in
     let at-if1 : tie.Else1 = search in
     let at-is-bad-party : tie.After-is-bad-party = search in
-    rw (sym (at-is-bad-party .is-bad-party .ensures) ∙ at-if1 .if1 .left, sym (at-is-bad-price .is-bad-price .ensures) ∙ at-if2 .if2 .left, sym (at-is-bad-quantity .is-bad-quantity .ensures) ∙ at-if3 .if3 .left, sym (at-is-not-open .is-not-open .ensures) ∙ at-if4 .if4 .left, sym (at-is-blocked .is-blocked .ensures) ∙ c .if5 .taken)
+    rw (
+      sym (at-is-bad-party .is-bad-party .ensures) ∙ at-if1 .if1 .left,
+      sym (at-is-bad-price .is-bad-price .ensures) ∙ at-if2 .if2 .left,
+      sym (at-is-bad-quantity .is-bad-quantity .ensures) ∙ at-if3 .if3 .left,
+      sym (at-is-not-open .is-not-open .ensures) ∙ at-if4 .if4 .left,
+      sym (at-is-blocked .is-blocked .ensures) ∙ c .if5 .taken,
+    )
 
 is-full-requires : tie.Need-is-full-requires
 is-full-requires c κs =
@@ -94,7 +109,14 @@ returns-6 c =
     let at-is-bad-price : tie.After-is-bad-price = search in
     let at-if1 : tie.Else1 = search in
     let at-is-bad-party : tie.After-is-bad-party = search in
-    rw (sym (at-is-bad-party .is-bad-party .ensures) ∙ at-if1 .if1 .left, sym (at-is-bad-price .is-bad-price .ensures) ∙ at-if2 .if2 .left, sym (at-is-bad-quantity .is-bad-quantity .ensures) ∙ at-if3 .if3 .left, sym (at-is-not-open .is-not-open .ensures) ∙ at-if4 .if4 .left, sym (at-is-blocked .is-blocked .ensures) ∙ at-if5 .if5 .left, sym (at-is-full .is-full .ensures) ∙ c .if6 .taken)
+    rw (
+      sym (at-is-bad-party .is-bad-party .ensures) ∙ at-if1 .if1 .left,
+      sym (at-is-bad-price .is-bad-price .ensures) ∙ at-if2 .if2 .left,
+      sym (at-is-bad-quantity .is-bad-quantity .ensures) ∙ at-if3 .if3 .left,
+      sym (at-is-not-open .is-not-open .ensures) ∙ at-if4 .if4 .left,
+      sym (at-is-blocked .is-blocked .ensures) ∙ at-if5 .if5 .left,
+      sym (at-is-full .is-full .ensures) ∙ c .if6 .taken,
+    )
 
 is-spent-requires : tie.Need-is-spent-requires
 is-spent-requires c κs = search needs
@@ -115,7 +137,15 @@ returns-7 c =
     let at-is-bad-price : tie.After-is-bad-price = search in
     let at-if1 : tie.Else1 = search in
     let at-is-bad-party : tie.After-is-bad-party = search in
-    rw (sym (at-is-bad-party .is-bad-party .ensures) ∙ at-if1 .if1 .left, sym (at-is-bad-price .is-bad-price .ensures) ∙ at-if2 .if2 .left, sym (at-is-bad-quantity .is-bad-quantity .ensures) ∙ at-if3 .if3 .left, sym (at-is-not-open .is-not-open .ensures) ∙ at-if4 .if4 .left, sym (at-is-blocked .is-blocked .ensures) ∙ at-if5 .if5 .left, sym (at-is-full .is-full .ensures) ∙ at-if6 .if6 .left, sym (at-is-spent .is-spent .ensures) ∙ c .if7 .taken)
+    rw (
+      sym (at-is-bad-party .is-bad-party .ensures) ∙ at-if1 .if1 .left,
+      sym (at-is-bad-price .is-bad-price .ensures) ∙ at-if2 .if2 .left,
+      sym (at-is-bad-quantity .is-bad-quantity .ensures) ∙ at-if3 .if3 .left,
+      sym (at-is-not-open .is-not-open .ensures) ∙ at-if4 .if4 .left,
+      sym (at-is-blocked .is-blocked .ensures) ∙ at-if5 .if5 .left,
+      sym (at-is-full .is-full .ensures) ∙ at-if6 .if6 .left,
+      sym (at-is-spent .is-spent .ensures) ∙ c .if7 .taken,
+    )
 
 is-missing-requires : tie.Need-is-missing-requires
 is-missing-requires c κs =
@@ -142,7 +172,16 @@ returns-8 c =
     let at-is-bad-price : tie.After-is-bad-price = search in
     let at-if1 : tie.Else1 = search in
     let at-is-bad-party : tie.After-is-bad-party = search in
-    rw (sym (at-is-bad-party .is-bad-party .ensures) ∙ at-if1 .if1 .left, sym (at-is-bad-price .is-bad-price .ensures) ∙ at-if2 .if2 .left, sym (at-is-bad-quantity .is-bad-quantity .ensures) ∙ at-if3 .if3 .left, sym (at-is-not-open .is-not-open .ensures) ∙ at-if4 .if4 .left, sym (at-is-blocked .is-blocked .ensures) ∙ at-if5 .if5 .left, sym (at-is-full .is-full .ensures) ∙ at-if6 .if6 .left, sym (at-is-spent .is-spent .ensures) ∙ at-if7 .if7 .left, sym (at-is-missing .is-missing .ensures) ∙ c .if8 .taken)
+    rw (
+      sym (at-is-bad-party .is-bad-party .ensures) ∙ at-if1 .if1 .left,
+      sym (at-is-bad-price .is-bad-price .ensures) ∙ at-if2 .if2 .left,
+      sym (at-is-bad-quantity .is-bad-quantity .ensures) ∙ at-if3 .if3 .left,
+      sym (at-is-not-open .is-not-open .ensures) ∙ at-if4 .if4 .left,
+      sym (at-is-blocked .is-blocked .ensures) ∙ at-if5 .if5 .left,
+      sym (at-is-full .is-full .ensures) ∙ at-if6 .if6 .left,
+      sym (at-is-spent .is-spent .ensures) ∙ at-if7 .if7 .left,
+      sym (at-is-missing .is-missing .ensures) ∙ c .if8 .taken,
+    )
 
 returns-9 : tie.Need-returns-9
 unfolding refusalOf
@@ -162,7 +201,16 @@ returns-9 c =
     let at-is-bad-price : tie.After-is-bad-price = search in
     let at-if1 : tie.Else1 = search in
     let at-is-bad-party : tie.After-is-bad-party = search in
-    rw (sym (at-is-bad-party .is-bad-party .ensures) ∙ at-if1 .if1 .left, sym (at-is-bad-price .is-bad-price .ensures) ∙ at-if2 .if2 .left, sym (at-is-bad-quantity .is-bad-quantity .ensures) ∙ at-if3 .if3 .left, sym (at-is-not-open .is-not-open .ensures) ∙ at-if4 .if4 .left, sym (at-is-blocked .is-blocked .ensures) ∙ at-if5 .if5 .left, sym (at-is-full .is-full .ensures) ∙ at-if6 .if6 .left, sym (at-is-spent .is-spent .ensures) ∙ at-if7 .if7 .left, sym (at-is-missing .is-missing .ensures) ∙ c .if8 .left)
+    rw (
+      sym (at-is-bad-party .is-bad-party .ensures) ∙ at-if1 .if1 .left,
+      sym (at-is-bad-price .is-bad-price .ensures) ∙ at-if2 .if2 .left,
+      sym (at-is-bad-quantity .is-bad-quantity .ensures) ∙ at-if3 .if3 .left,
+      sym (at-is-not-open .is-not-open .ensures) ∙ at-if4 .if4 .left,
+      sym (at-is-blocked .is-blocked .ensures) ∙ at-if5 .if5 .left,
+      sym (at-is-full .is-full .ensures) ∙ at-if6 .if6 .left,
+      sym (at-is-spent .is-spent .ensures) ∙ at-if7 .if7 .left,
+      sym (at-is-missing .is-missing .ensures) ∙ c .if8 .left,
+    )
 
 pub refusal-of-spec : {M : Type 1} → statement M
 refusal-of-spec =

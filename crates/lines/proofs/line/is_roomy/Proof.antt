@@ -5,12 +5,14 @@ use Rattle.lines.proofs.line.is_roomy.Tie as tie
 
 returns : tie.Need-returns
 returns c =
-    let a = c .before .args in
+    let start : tie.Start = search in
+    let a = start .args in
     sym (roomy-not (a .size) (a .at) (a .lines) (c .if1 .taken))
 
 returns-2 : tie.Need-returns-2
 returns-2 c =
-    let a = c .before .args in
+    let start : tie.Start = search in
+    let a = start .args in
     roomy-by (a .size) (a .at) (a .lines) (c .if1 .left)
 
 pub is-roomy-spec : {M : Type 1} → statement M

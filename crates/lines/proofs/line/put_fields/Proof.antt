@@ -27,11 +27,13 @@ array-read-put-field c = search needs
 
 put-field-requires : tie.Need-put-field-requires Inv-loop μ-loop
 put-field-requires c κs =
-    let f : List ℕ = c .before .before .before .before .args .t3 in
-    let i : ℕ = c .before .before .loop .i in
+    let at-loop : tie.At-loop Inv-loop μ-loop = search in
+    let start : tie.Start Inv-loop μ-loop = search in
+    let f : List ℕ = start .args .t3 in
+    let i : ℕ = at-loop .loop .i in
     going-room (space ∷ decimal (getD f i 0)) (spaced (drop (i + 1) f)) (next-field f i (omega arith))
-    (c .before .before .loop .inv)
-    (c .before .before .before .before .pre)
+    (at-loop .loop .inv)
+    (start .pre)
 
 add-i : tie.Need-add-i Inv-loop μ-loop
 add-i c = search needs
@@ -41,19 +43,24 @@ loop-less c = search needs
 
 loop-again : tie.Need-loop-again Inv-loop μ-loop
 loop-again c =
-    let l = c .before .before .before .before .before .loop in
-    let f : List ℕ = c .before .before .before .before .before .before .before .args .t3 in
+    let at-put-field : tie.After-put-field Inv-loop μ-loop = search in
+    let at-loop : tie.At-loop Inv-loop μ-loop = search in
+    let start : tie.Start Inv-loop μ-loop = search in
+    let l = at-loop .loop in
+    let f : List ℕ = start .args .t3 in
     going-turn (space ∷ decimal (getD f (l .i) 0)) (spaced (drop (l .i + 1) f)) (next-field f (l .i) (omega arith))
     (l .inv)
-    (c .before .before .put-field .ensures)
+    (at-put-field .put-field .ensures)
 
 same-length : tie.Need-same-length Inv-loop μ-loop
-same-length c = going-length (c .before .loop .inv)
+same-length c = let at-loop : tie.At-loop Inv-loop μ-loop = search in going-length (at-loop .loop .inv)
 
 returns : tie.Need-returns Inv-loop μ-loop
 returns c =
-    let l = c .before .loop in
-    let f : List ℕ = c .before .before .before .args .t3 in
+    let at-loop : tie.At-loop Inv-loop μ-loop = search in
+    let start : tie.Start Inv-loop μ-loop = search in
+    let l = at-loop .loop in
+    let f : List ℕ = start .args .t3 in
     going-done (going-left (no-field f (l .i) (omega arith)) (l .inv))
 
 pub put-fields-spec : {M : Type 1} → statement M

@@ -8,7 +8,8 @@ use Rattle.lines.proofs.line.put_place.Tie as tie
 
 returns : tie.Need-returns
 returns c =
-    let a = c .before .before .before .args in
+    let start : tie.Start = search in
+    let a = start .args in
     rw (no-place (a .room .now) (a .k) (c .if1 .taken)) (put-none (a .out .now) (a .at))
 
 mul-from : tie.Need-mul-from
@@ -37,26 +38,34 @@ enum-told c = search needs
 
 returns-2 : tie.Need-returns-2
 returns-2 c =
-    let a = c .before .before .before .before .before .before .before .args in
-    let u = place-part (a .room .now) (a .k) _ (c .before .before .unpack .ensures .0) in
+    let at-unpack : tie.After-unpack = search in
+    let start : tie.Start = search in
+    let a = start .args in
+    let u = place-part (a .room .now) (a .k) _ (at-unpack .unpack .ensures .0) in
     rw (was-nothing (standsAt (a .room .now) (a .k)) (sym u ∙ c .enum-told .given .1)) (put-none (a .out .now) (a .at))
 
 put-report-requires : tie.Need-put-report-requires
 put-report-requires c κs =
-    let s = c .before .before .before .before .before .before .before .before .before in
-    let u = place-part (s .args .room .now) (s .args .k) _ (c .before .before .before .before .unpack .ensures .0) in
-    let e = was-told (standsAt (s .args .room .now) (s .args .k)) _ (sym u ∙ c .before .before .report .given .1) in
-    rw e at (s .pre)
+    let at-report : tie.After-report = search in
+    let at-unpack : tie.After-unpack = search in
+    let start : tie.Start = search in
+    let u = place-part (start .args .room .now) (start .args .k) _ (at-unpack .unpack .ensures .0) in
+    let e = was-told (standsAt (start .args .room .now) (start .args .k)) _ (sym u ∙ at-report .report .given .1) in
+    rw e at (start .pre)
 
 same-length : tie.Need-same-length
 same-length c = search needs
 
 returns-3 : tie.Need-returns-3
 returns-3 c =
-    let a = c .before .before .before .before .before .before .before .before .before .before .before .before .args in
-    let u = place-part (a .room .now) (a .k) _ (c .before .before .before .before .before .before .before .unpack .ensures .0) in
-    let e = was-told (standsAt (a .room .now) (a .k)) _ (sym u ∙ c .before .before .before .before .before .report .given .1) in
-    rw e (c .before .before .put-report .ensures)
+    let at-put-report : tie.After-put-report = search in
+    let at-report : tie.After-report = search in
+    let at-unpack : tie.After-unpack = search in
+    let start : tie.Start = search in
+    let a = start .args in
+    let u = place-part (a .room .now) (a .k) _ (at-unpack .unpack .ensures .0) in
+    let e = was-told (standsAt (a .room .now) (a .k)) _ (sym u ∙ at-report .report .given .1) in
+    rw e (at-put-report .put-report .ensures)
 
 pub put-place-spec : {M : Type 1} → statement M
 put-place-spec =

@@ -12,51 +12,74 @@ use borrow.Author.Needs.{needs}
 use Rattle.lines.proofs.line.put_refusal.Statement.{statement}
 use Rattle.lines.proofs.line.put_refusal.Tie as tie
 
+-- from a place to one far behind it, said once
+abbrev put-number2-to-start : tie.After-put-number2 → tie.Start
+put-number2-to-start place = search
+
 -- the number and the word
 worded : (c : tie.After-put-number-arg2)
-    → TextPut
-    (c .before .before .before .before .before .before .before .before .before .before .before .args .out .now)
-    (c .before .before .before .before .before .before .before .before .before .before .before .args .at)
-    (decimal (c .before .before .before .before .before .before .before .before .before .before .before .args .number) ++ refusedWord)
-    (c .before .before .before .store .last .0)
-    (c .before .before .before .before .before .before .before .before .put-number .result + 9)
-worded c = put-then (c .before .before .before .before .before .before .before .before .put-number .ensures) (record { stored = c .before .before .before .store .ensures; ends = refl })
+    → let at-store : tie.After-store = search in
+    let at-put-number : tie.After-put-number = search in
+    let start : tie.Start = search in
+    TextPut
+    (start .args .out .now)
+    (start .args .at)
+    (decimal (start .args .number) ++ refusedWord)
+    (at-store .store .last .0)
+    (at-put-number .put-number .result + 9)
+worded c =
+    let at-store : tie.After-store = search in
+    let at-put-number : tie.After-put-number = search in
+    put-then (at-put-number .put-number .ensures) (record { stored = at-store .store .ensures; ends = refl })
 
 worded-room : (c : tie.After-put-number-arg2)
-    → c .before .before .before .before .before .before .before .before .put-number .result + 9 + length (decimal (c .before .before .before .before .before .before .before .before .before .before .before .args .refusal)) ≤ length (c .before .before .before .store .last .0)
+    → let at-store : tie.After-store = search in
+    let at-put-number : tie.After-put-number = search in
+    let start : tie.Start = search in
+    at-put-number .put-number .result + 9 + length (decimal (start .args .refusal)) ≤ length (at-store .store .last .0)
 unfolding refusalLine
 worded-room c =
-    let s = c .before .before .before .before .before .before .before .before .before .before .before in
-    room-behind (decimal (s .args .refusal)) (worded c)
-    (room-front (s .args .out .now) (s .args .at) (decimal (s .args .number) ++ refusedWord ++ decimal (s .args .refusal)) (10 ∷ []) (s .pre))
+    let start : tie.Start = search in
+    room-behind (decimal (start .args .refusal)) (worded c)
+    (room-front (start .args .out .now) (start .args .at) (decimal (start .args .number) ++ refusedWord ++ decimal (start .args .refusal)) (10 ∷ [])
+    (start .pre))
 
 -- and the refusal
 told : (c : tie.After-slice-known4)
-    → TextPut
-    (c .before .before .before .before .before .before .before .before .before .before .before .before .before .before .args .out .now)
-    (c .before .before .before .before .before .before .before .before .before .before .before .before .before .before .args .at)
-    (decimal (c .before .before .before .before .before .before .before .before .before .before .before .before .before .before .args .number) ++ refusedWord ++ decimal (c .before .before .before .before .before .before .before .before .before .before .before .before .before .before .args .refusal))
-    (c .before .before .put-number2 .last .0)
-    (c .before .before .put-number2 .result)
-told c = put-then (worded (c .before .before .before)) (c .before .before .put-number2 .ensures)
+    → let at-put-number2 : tie.After-put-number2 = search in
+    let start = put-number2-to-start at-put-number2 in
+    TextPut
+    (start .args .out .now)
+    (start .args .at)
+    (decimal (start .args .number) ++ refusedWord ++ decimal (start .args .refusal))
+    (at-put-number2 .put-number2 .last .0)
+    (at-put-number2 .put-number2 .result)
+told c =
+    let at-put-number2 : tie.After-put-number2 = search in
+    let at-put-number-arg2 : tie.After-put-number-arg2 = search in
+    put-then (worded at-put-number-arg2) (at-put-number2 .put-number2 .ensures)
 
-told-room : (c : tie.After-slice-known4) → c .before .before .put-number2 .result + 1 ≤ length (c .before .before .put-number2 .last .0)
+told-room : (c : tie.After-slice-known4)
+    → let at-put-number2 : tie.After-put-number2 = search in
+    at-put-number2 .put-number2 .result + 1 ≤ length (at-put-number2 .put-number2 .last .0)
 unfolding refusalLine
-told-room c = room-behind (10 ∷ []) (told c) (c .before .before .before .before .before .before .before .before .before .before .before .before .before .before .pre)
+told-room c = let start : tie.Start = search in room-behind (10 ∷ []) (told c) (start .pre)
 
 put-number-requires : tie.Need-put-number-requires
 put-number-requires c κs =
-    let a = c .before .before .args in
-    omega (arith, refusal-length (a .number) (a .refusal), c .before .before .pre)
+    let start : tie.Start = search in
+    let a = start .args in
+    omega (arith, refusal-length (a .number) (a .refusal), start .pre)
 
 slice-aggregate-store : tie.Need-slice-aggregate-store
 slice-aggregate-store c = search needs
 
 store-requires : tie.Need-store-requires
 store-requires c κs =
-    let s = c .before .before .before .before .before .before .before in
-    let p = c .before .before .before .before .put-number .ensures in
-    omega (arith, refusal-length (s .args .number) (s .args .refusal), s .pre, p .ends, put-length p)
+    let at-put-number : tie.After-put-number = search in
+    let start : tie.Start = search in
+    let p = at-put-number .put-number .ensures in
+    omega (arith, refusal-length (start .args .number) (start .args .refusal), start .pre, p .ends, put-length p)
 
 add-put-number : tie.Need-add-put-number
 add-put-number c = omega (arith, worded-room c, put-length (worded c))

@@ -14,34 +14,44 @@ use Rattle.lines.proofs.line.put_report.Tie as tie
 
 -- the number and the fields
 told : (c : tie.After-slice-known3)
-    → TextPut
-    (c .before .before .before .before .before .before .before .before .before .before .args .out .now)
-    (c .before .before .before .before .before .before .before .before .before .before .args .at)
-    (decimal (c .before .before .before .before .before .before .before .before .before .before .args .number) ++ spaced (fieldsOf (c .before .before .before .before .before .before .before .before .before .before .args .report)))
-    (c .before .before .put-fields .last .0)
-    (c .before .before .put-fields .result)
+    → let at-put-fields : tie.After-put-fields = search in
+    let start : tie.Start = search in
+    TextPut
+    (start .args .out .now)
+    (start .args .at)
+    (decimal (start .args .number) ++ spaced (fieldsOf (start .args .report)))
+    (at-put-fields .put-fields .last .0)
+    (at-put-fields .put-fields .result)
 told c =
-    rw (← (c .before .before .before .before .before .before .before .before .fields-of .ensures))
-    (put-then (c .before .before .before .before .before .before .put-number .ensures) (c .before .before .put-fields .ensures))
+    let at-put-fields : tie.After-put-fields = search in
+    let at-put-number : tie.After-put-number = search in
+    let at-fields-of : tie.After-fields-of = search in
+    rw (← (at-fields-of .fields-of .ensures))
+    (put-then (at-put-number .put-number .ensures) (at-put-fields .put-fields .ensures))
 
-told-room : (c : tie.After-slice-known3) → c .before .before .put-fields .result + 1 ≤ length (c .before .before .put-fields .last .0)
+told-room : (c : tie.After-slice-known3)
+    → let at-put-fields : tie.After-put-fields = search in
+    at-put-fields .put-fields .result + 1 ≤ length (at-put-fields .put-fields .last .0)
 unfolding reportLine
-told-room c = room-behind (10 ∷ []) (told c) (c .before .before .before .before .before .before .before .before .before .before .pre)
+told-room c = let start : tie.Start = search in room-behind (10 ∷ []) (told c) (start .pre)
 
 fields-of-requires : tie.Need-fields-of-requires
 fields-of-requires c κs = search needs
 
 put-number-requires : tie.Need-put-number-requires
 put-number-requires c κs =
-    let a = c .before .before .before .args in
-    omega (arith, report-length (a .number) (a .report), c .before .before .before .pre)
+    let start : tie.Start = search in
+    let a = start .args in
+    omega (arith, report-length (a .number) (a .report), start .pre)
 
 put-fields-requires : tie.Need-put-fields-requires
 put-fields-requires c κs =
-    let s = c .before .before .before .before .before .before .before in
-    let p = c .before .before .before .put-number .ensures in
-    rw (c .before .before .before .before .before .fields-of .ensures)
-    (omega (arith, report-length (s .args .number) (s .args .report), s .pre, p .ends, put-length p))
+    let at-put-number : tie.After-put-number = search in
+    let at-fields-of : tie.After-fields-of = search in
+    let start : tie.Start = search in
+    let p = at-put-number .put-number .ensures in
+    rw (at-fields-of .fields-of .ensures)
+    (omega (arith, report-length (start .args .number) (start .args .report), start .pre, p .ends, put-length p))
 
 slice-write-out : tie.Need-slice-write-out
 slice-write-out c = omega (arith, told-room c)

@@ -16,18 +16,21 @@ abbrev μ-loop : tie.MeasureT-loop
 
 loop-holds : tie.Need-loop-holds Inv-loop μ-loop
 loop-holds c =
-    let a = c .before .before .args in
+    let start : tie.Start Inv-loop μ-loop = search in
+    let a = start .args in
     going-left (all-lines (a .number) (a .room .now) (a .count)) (going-start _ _ _)
 
 put-place-requires : tie.Need-put-place-requires Inv-loop μ-loop
 put-place-requires c κs =
-    let s = c .before .before .before .before .before in
-    let l = c .before .before .loop in
-    going-room (lineOf (s .args .number) (standsAt (s .args .room .now) (l .k)))
-    (reportLines (s .args .number) (leftFrom (s .args .room .now) (s .args .count) (l .k + 1)))
-    (next-line (s .args .number) (s .args .room .now) (s .args .count) (l .k) (c .before .loop-test .taken))
+    let at-loop-test : tie.In-loop Inv-loop μ-loop = search in
+    let at-loop : tie.At-loop Inv-loop μ-loop = search in
+    let start : tie.Start Inv-loop μ-loop = search in
+    let l = at-loop .loop in
+    going-room (lineOf (start .args .number) (standsAt (start .args .room .now) (l .k)))
+    (reportLines (start .args .number) (leftFrom (start .args .room .now) (start .args .count) (l .k + 1)))
+    (next-line (start .args .number) (start .args .room .now) (start .args .count) (l .k) (at-loop-test .loop-test .taken))
     (l .inv)
-    (s .pre)
+    (start .pre)
 
 add-k : tie.Need-add-k Inv-loop μ-loop
 add-k c = search needs
@@ -37,21 +40,27 @@ loop-less c = search needs
 
 loop-again : tie.Need-loop-again Inv-loop μ-loop
 loop-again c =
-    let a = c .before .before .before .before .before .before .before .before .args in
-    let l = c .before .before .before .before .before .loop in
+    let at-put-place : tie.After-put-place Inv-loop μ-loop = search in
+    let at-loop-test : tie.In-loop Inv-loop μ-loop = search in
+    let at-loop : tie.At-loop Inv-loop μ-loop = search in
+    let start : tie.Start Inv-loop μ-loop = search in
+    let a = start .args in
+    let l = at-loop .loop in
     going-turn (lineOf (a .number) (standsAt (a .room .now) (l .k)))
     (reportLines (a .number) (leftFrom (a .room .now) (a .count) (l .k + 1)))
-    (next-line (a .number) (a .room .now) (a .count) (l .k) (c .before .before .before .before .loop-test .taken))
+    (next-line (a .number) (a .room .now) (a .count) (l .k) (at-loop-test .loop-test .taken))
     (l .inv)
-    (c .before .before .put-place .ensures)
+    (at-put-place .put-place .ensures)
 
 same-length : tie.Need-same-length Inv-loop μ-loop
-same-length c = going-length (c .before .loop .inv)
+same-length c = let at-loop : tie.At-loop Inv-loop μ-loop = search in going-length (at-loop .loop .inv)
 
 returns : tie.Need-returns Inv-loop μ-loop
 returns c =
-    let a = c .before .before .before .before .args in
-    going-done (going-left (no-line (a .number) (a .room .now) (a .count) (c .before .loop .k) (c .loop-test .left)) (c .before .loop .inv))
+    let at-loop : tie.At-loop Inv-loop μ-loop = search in
+    let start : tie.Start Inv-loop μ-loop = search in
+    let a = start .args in
+    going-done (going-left (no-line (a .number) (a .room .now) (a .count) (at-loop .loop .k) (c .loop-test .left)) (at-loop .loop .inv))
 
 pub put-reports-spec : {M : Type 1} → statement M
 put-reports-spec =

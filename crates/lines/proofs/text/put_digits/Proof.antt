@@ -20,27 +20,34 @@ slice-aggregate-store c = search needs
 
 store-requires : tie.Need-store-requires
 store-requires c κs =
-    let d = c .before .before .decimal in
-    let t = told-decimal (c .before .before .before .before .before .args .n) (d .result) (d .last .1 .0) (d .ensures .0) (d .ensures .1 .0) (d .ensures .1 .1) in
-    omega (arith, ap length (t .0), c .before .before .before .before .before .pre)
+    let at-decimal : tie.After-decimal = search in
+    let start : tie.Start = search in
+    let d = at-decimal .decimal in
+    let t = told-decimal (start .args .n) (d .result) (d .last .1 .0) (d .ensures .0) (d .ensures .1 .0) (d .ensures .1 .1) in
+    omega (arith, ap length (t .0), start .pre)
 
 add-result : tie.Need-add-result
 add-result c =
-    let d = c .before .before .before .before .before .decimal in
-    let a = c .before .before .before .before .before .before .before .before .args in
+    let at-decimal : tie.After-decimal = search in
+    let start : tie.Start = search in
+    let d = at-decimal .decimal in
+    let a = start .args in
     let t = told-decimal (a .n) (d .result) (d .last .1 .0) (d .ensures .0) (d .ensures .1 .0) (d .ensures .1 .1) in
-    omega (arith, t .1, c .before .before .before .before .before .before .before .before .pre)
+    omega (arith, t .1, start .pre)
 
 same-length : tie.Need-same-length
 same-length c = search needs
 
 returns : tie.Need-returns
 returns c =
-    let d = c .before .before .before .before .before .decimal in
-    let a = c .before .before .before .before .before .before .before .before .args in
+    let at-store : tie.After-store = search in
+    let at-decimal : tie.After-decimal = search in
+    let start : tie.Start = search in
+    let d = at-decimal .decimal in
+    let a = start .args in
     let t = told-decimal (a .n) (d .result) (d .last .1 .0) (d .ensures .0) (d .ensures .1 .0) (d .ensures .1 .1) in
     record {
-      stored = c .before .before .store .ensures ∙ ap (λ (l : List ℕ). sets (a .out .now) (a .at) l) (t .0);
+      stored = at-store .store .ensures ∙ ap (λ (l : List ℕ). sets (a .out .now) (a .at) l) (t .0);
       ends = ap (λ (k : ℕ). a .at + k) (t .1);
     }
 

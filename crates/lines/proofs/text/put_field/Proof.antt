@@ -16,12 +16,16 @@ put-number-requires : tie.Need-put-number-requires
 put-number-requires c κs = simp length-set (omega arith)
 
 same-length : tie.Need-same-length
-same-length c = put-length (c .before .before .put-number .ensures) ∙ simp length-set
+same-length c =
+    let at-put-number : tie.After-put-number = search in
+    put-length (at-put-number .put-number .ensures) ∙ simp length-set
 
 returns : tie.Need-returns
 returns c =
-    let a = c .before .before .before .before .before .args in
-    put-then (put-byte (a .out .now) (a .at) 32) (c .before .before .put-number .ensures)
+    let at-put-number : tie.After-put-number = search in
+    let start : tie.Start = search in
+    let a = start .args in
+    put-then (put-byte (a .out .now) (a .at) 32) (at-put-number .put-number .ensures)
 
 pub put-field-spec : {M : Type 1} → statement M
 put-field-spec =

@@ -14,7 +14,9 @@ add-out : tie.Need-add-out
 add-out c = search needs
 
 slice-write-out : tie.Need-slice-write-out
-slice-write-out c = omega (arith, ap length (decimal-one (c .before .before .args .n) (c .if1 .taken)))
+slice-write-out c =
+    let start : tie.Start = search in
+    omega (arith, ap length (decimal-one (start .args .n) (c .if1 .taken)))
 
 add-result : tie.Need-add-result
 add-result c = search needs
@@ -24,7 +26,8 @@ same-length c = search needs
 
 returns : tie.Need-returns
 returns c =
-    let a = c .before .before .args in
+    let start : tie.Start = search in
+    let a = start .args in
     rw (decimal-one (a .n) (c .if1 .taken)) (put-byte (a .out .now) (a .at) _)
 
 put-digits-requires : tie.Need-put-digits-requires

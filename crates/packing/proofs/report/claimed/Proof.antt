@@ -46,8 +46,10 @@ returns-3 c = rw (c .match .keys3)
 
 returns-4 : tie.Need-returns-4
 returns-4 c =
-    let r = c .before .match .rest in
-    c .claimed-later .ensures ∙ ap unpacked (sym (later-kind _ (c .before .before .args .t1) (r .0 .0 .1) (r .0 .1) (r .1)))
+    let at-match : tie.At-match-rest = search in
+    let start : tie.Start = search in
+    let r = at-match .match .rest in
+    c .claimed-later .ensures ∙ ap unpacked (sym (later-kind _ (start .args .t1) (r .0 .0 .1) (r .0 .1) (r .1)))
 
 pub claimed-spec : {M : Type 1} → statement M
 claimed-spec =

@@ -43,8 +43,9 @@ returns-3 c = rw (c .match .keys3)
 
 returns-4 : tie.Need-returns-4
 returns-4 c =
+    let start : tie.Start = search in
     let r = c .match .rest in
-    ap unpacked (sym (unknown-kind _ (c .before .args .t1) (r .0 .0 .1) (r .0 .1) (r .1)))
+    ap unpacked (sym (unknown-kind _ (start .args .t1) (r .0 .0 .1) (r .0 .1) (r .1)))
 
 pub claimed-later-spec : {M : Type 1} → statement M
 claimed-later-spec =

@@ -34,7 +34,7 @@ array-read-t30 : tie.Need-array-read-t30
 array-read-t30 c = search needs
 
 returns : tie.Need-returns
-returns c = code-fields (c .before .args .report) _ (c .fields-of .ensures)
+returns c = let start : tie.Start = search in code-fields (start .args .report) _ (c .fields-of .ensures)
 
 pub code-spec : {M : Type 1} → statement M
 code-spec =

@@ -41,22 +41,34 @@ fields-of-later-requires-3 : tie.Need-fields-of-later-requires-3
 fields-of-later-requires-3 c κs = search needs
 
 returns : tie.Need-returns
-returns c = c .row .ensures ∙ sym (ap fieldsOf (c .before .enum-told .given .1))
+returns c =
+    let at-enum-told : tie.After-enum-told = search in
+    c .row .ensures ∙ sym (ap fieldsOf (at-enum-told .enum-told .given .1))
 
 returns-2 : tie.Need-returns-2
-returns-2 c = c .row2 .ensures ∙ sym (ap fieldsOf (c .before .before .report .given .1))
+returns-2 c =
+    let at-report : tie.After-report = search in
+    c .row2 .ensures ∙ sym (ap fieldsOf (at-report .report .given .1))
 
 returns-3 : tie.Need-returns-3
-returns-3 c = c .row3 .ensures ∙ sym (ap fieldsOf (c .before .before .report2 .given .1))
+returns-3 c =
+    let at-report2 : tie.After-report2 = search in
+    c .row3 .ensures ∙ sym (ap fieldsOf (at-report2 .report2 .given .1))
 
 returns-4 : tie.Need-returns-4
-returns-4 c = c .fields-of-later .ensures ∙ rw (c .before .enum-told2 .given .1)
+returns-4 c =
+    let at-enum-told2 : tie.After-enum-told2 = search in
+    c .fields-of-later .ensures ∙ rw (at-enum-told2 .enum-told2 .given .1)
 
 returns-5 : tie.Need-returns-5
-returns-5 c = c .fields-of-later2 .ensures ∙ rw (c .before .enum-told3 .given .1)
+returns-5 c =
+    let at-enum-told3 : tie.After-enum-told3 = search in
+    c .fields-of-later2 .ensures ∙ rw (at-enum-told3 .enum-told3 .given .1)
 
 returns-6 : tie.Need-returns-6
-returns-6 c = c .fields-of-later3 .ensures ∙ rw (c .before .enum-told4 .given .1)
+returns-6 c =
+    let at-enum-told4 : tie.After-enum-told4 = search in
+    c .fields-of-later3 .ensures ∙ rw (at-enum-told4 .enum-told4 .given .1)
 
 pub fields-of-spec : {M : Type 1} → statement M
 fields-of-spec =

@@ -50,13 +50,19 @@ returns-3 : tie.Need-returns-3
 returns-3 c = sym (ap laterFields (c .enum-told3 .given .1))
 
 returns-4 : tie.Need-returns-4
-returns-4 c = c .row .ensures ∙ sym (ap laterFields (c .before .before .report .given .1))
+returns-4 c =
+    let at-report : tie.After-report = search in
+    c .row .ensures ∙ sym (ap laterFields (at-report .report .given .1))
 
 returns-5 : tie.Need-returns-5
-returns-5 c = c .row2 .ensures ∙ sym (ap laterFields (c .before .before .report2 .given .1))
+returns-5 c =
+    let at-report2 : tie.After-report2 = search in
+    c .row2 .ensures ∙ sym (ap laterFields (at-report2 .report2 .given .1))
 
 returns-6 : tie.Need-returns-6
-returns-6 c = c .row3 .ensures ∙ sym (ap laterFields (c .before .before .report3 .given .1))
+returns-6 c =
+    let at-report3 : tie.After-report3 = search in
+    c .row3 .ensures ∙ sym (ap laterFields (at-report3 .report3 .given .1))
 
 pub fields-of-later-spec : {M : Type 1} → statement M
 fields-of-later-spec =

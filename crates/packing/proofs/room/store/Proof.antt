@@ -35,21 +35,28 @@ loop-less c = search needs
 
 loop-again : tie.Need-loop-again Inv-loop μ-loop
 loop-again c =
-    let l = c .before .before .loop in
-    let a = c .before .before .before .args in (
+    let at-loop-test : tie.In-loop Inv-loop μ-loop = search in
+    let at-loop : tie.At-loop Inv-loop μ-loop = search in
+    let start : tie.Start Inv-loop μ-loop = search in
+    let l = at-loop .loop in
+    let a = start .args in (
       omega arith,
       ap (λ (r : List ℕ). set r (a .start + l .i) (getD (a .part .now) (l .i) 0)) (l .inv .1)
-          ∙ sets-more (a .room .now) (a .start) (a .part .now) (l .i) (c .before .loop-test .taken),
+          ∙ sets-more (a .room .now) (a .start) (a .part .now) (l .i) (at-loop-test .loop-test .taken),
       simp length-set (omega arith),
     )
 
 same-length : tie.Need-same-length Inv-loop μ-loop
-same-length c = ap length (c .before .loop .inv .1) ∙ simp length-sets
+same-length c =
+    let at-loop : tie.At-loop Inv-loop μ-loop = search in
+    ap length (at-loop .loop .inv .1) ∙ simp length-sets
 
 returns : tie.Need-returns Inv-loop μ-loop
 returns c =
-    let a = c .before .before .args in
-    c .before .loop .inv .1 ∙ ap (λ (l : List ℕ). sets (a .room .now) (a .start) l) (take-all _ (a .part .now) (c .loop-test .left))
+    let at-loop : tie.At-loop Inv-loop μ-loop = search in
+    let start : tie.Start Inv-loop μ-loop = search in
+    let a = start .args in
+    at-loop .loop .inv .1 ∙ ap (λ (l : List ℕ). sets (a .room .now) (a .start) l) (take-all _ (a .part .now) (c .loop-test .left))
 
 pub store-spec : {M : Type 1} → statement M
 store-spec =

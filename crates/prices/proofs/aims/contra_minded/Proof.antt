@@ -8,11 +8,15 @@ is-minding-requires c κs = search needs
 
 returns : tie.Need-returns
 unfolding minded
-returns c = rw (← c .before .is-minding .ensures, c .if1 .taken)
+returns c =
+    let at-is-minding : tie.After-is-minding = search in
+    rw (← at-is-minding .is-minding .ensures, c .if1 .taken)
 
 returns-2 : tie.Need-returns-2
 unfolding minded
-returns-2 c = rw (← c .before .is-minding .ensures, c .if1 .left)
+returns-2 c =
+    let at-is-minding : tie.After-is-minding = search in
+    rw (← at-is-minding .is-minding .ensures, c .if1 .left)
 
 pub contra-minded-spec : {M : Type 1} → statement M
 contra-minded-spec = tie.close (tie.spec is-minding-requires returns returns-2)

@@ -13,7 +13,7 @@ meeker-requires c κs = search needs
 
 returns-2 : tie.Need-returns-2
 unfolding upTo
-returns-2 c = rw (ne-eqb _ 0 (c .before .if1 .left)) (c .meeker .ensures)
+returns-2 c = let at-if1 : tie.Else1 = search in rw (ne-eqb _ 0 (at-if1 .if1 .left)) (c .meeker .ensures)
 
 pub held-to-spec : {M : Type 1} → statement M
 held-to-spec = tie.close (tie.spec returns meeker-requires returns-2)

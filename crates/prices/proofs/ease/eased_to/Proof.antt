@@ -11,11 +11,14 @@ keener-requires c κs = search needs
 
 returns : tie.Need-returns
 unfolding easedTo
-returns c = rw (← c .before .before .is-beyond .ensures, c .before .if1 .taken) (c .keener .ensures)
+returns c =
+    let at-if1 : tie.Then1 = search in
+    let at-is-beyond : tie.After-is-beyond = search in
+    rw (← at-is-beyond .is-beyond .ensures, at-if1 .if1 .taken) (c .keener .ensures)
 
 returns-2 : tie.Need-returns-2
 unfolding easedTo
-returns-2 c = rw (← c .before .is-beyond .ensures, c .if1 .left)
+returns-2 c = let at-is-beyond : tie.After-is-beyond = search in rw (← at-is-beyond .is-beyond .ensures, c .if1 .left)
 
 pub eased-to-spec : {M : Type 1} → statement M
 eased-to-spec = tie.close (tie.spec is-beyond-requires keener-requires returns returns-2)

@@ -12,7 +12,10 @@ distance-requires : tie.Need-distance-requires
 distance-requires c κs = search needs
 
 returns : tie.Need-returns
-returns c = rw (c .distance .ensures, c .before .most-distant .ensures, c .before .before .is-sliding .ensures)
+returns c =
+    let at-most-distant : tie.After-most-distant = search in
+    let at-is-sliding : tie.After-is-sliding = search in
+    rw (c .distance .ensures, at-most-distant .most-distant .ensures, at-is-sliding .is-sliding .ensures)
 
 pub is-too-distant-spec : {M : Type 1} → statement M
 is-too-distant-spec =

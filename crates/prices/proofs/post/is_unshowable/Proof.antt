@@ -12,7 +12,10 @@ is-reaching-requires : tie.Need-is-reaching-requires
 is-reaching-requires c κs = search needs
 
 returns : tie.Need-returns
-returns c = rw (c .is-reaching .ensures, c .before .last-price .ensures, c .before .before .is-sliding .ensures)
+returns c =
+    let at-last-price : tie.After-last-price = search in
+    let at-is-sliding : tie.After-is-sliding = search in
+    rw (c .is-reaching .ensures, at-last-price .last-price .ensures, at-is-sliding .is-sliding .ensures)
 
 pub is-unshowable-spec : {M : Type 1} → statement M
 is-unshowable-spec = tie.close (tie.spec is-sliding-requires last-price-requires is-reaching-requires returns)

@@ -17,7 +17,11 @@ first-stop-requires c κs = search needs
 
 returns : tie.Need-returns
 unfolding stopped
-returns c = rw (← c .before .before .before .is-locking .ensures, ← c .before .before .is-unshowable .ensures, ← c .before .is-too-distant .ensures) (c .first-stop .ensures)
+returns c =
+    let at-is-too-distant : tie.After-is-too-distant = search in
+    let at-is-unshowable : tie.After-is-unshowable = search in
+    let at-is-locking : tie.After-is-locking = search in
+    rw (← at-is-locking .is-locking .ensures, ← at-is-unshowable .is-unshowable .ensures, ← at-is-too-distant .is-too-distant .ensures) (c .first-stop .ensures)
 
 pub stop-of-spec : {M : Type 1} → statement M
 stop-of-spec =

@@ -9,7 +9,10 @@ is-limited-requires : tie.Need-is-limited-requires
 is-limited-requires c κs = search needs
 
 returns : tie.Need-returns
-returns c = rw (c .before .is-limited .ensures, c .before .before .far-figures .ensures)
+returns c =
+    let at-is-limited : tie.After-is-limited = search in
+    let at-far-figures : tie.After-far-figures = search in
+    rw (at-is-limited .is-limited .ensures, at-far-figures .far-figures .ensures)
 
 pub is-too-far-spec : {M : Type 1} → statement M
 is-too-far-spec = tie.close (tie.spec far-figures-requires is-limited-requires returns)

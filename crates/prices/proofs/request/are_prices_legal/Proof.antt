@@ -12,7 +12,10 @@ is-none-or-legal-requires-2 : tie.Need-is-none-or-legal-requires-2
 is-none-or-legal-requires-2 c κs = search needs
 
 returns : tie.Need-returns
-returns c = rw (c .is-none-or-legal2 .ensures, c .before .is-none-or-legal .ensures, c .before .before .is-legal .ensures)
+returns c =
+    let at-is-none-or-legal : tie.After-is-none-or-legal = search in
+    let at-is-legal : tie.After-is-legal = search in
+    rw (c .is-none-or-legal2 .ensures, at-is-none-or-legal .is-none-or-legal .ensures, at-is-legal .is-legal .ensures)
 
 pub are-prices-legal-spec : {M : Type 1} → statement M
 are-prices-legal-spec =

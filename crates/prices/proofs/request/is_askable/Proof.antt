@@ -9,7 +9,7 @@ is-mpv-requires : tie.Need-is-mpv-requires
 is-mpv-requires c κs = search needs
 
 returns : tie.Need-returns
-returns c = rw (c .is-mpv .ensures, c .before .is-asked .ensures)
+returns c = let at-is-asked : tie.After-is-asked = search in rw (c .is-mpv .ensures, at-is-asked .is-asked .ensures)
 
 pub is-askable-spec : {M : Type 1} → statement M
 is-askable-spec = tie.close (tie.spec is-asked-requires is-mpv-requires returns)

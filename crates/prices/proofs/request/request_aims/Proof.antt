@@ -14,24 +14,61 @@ refused-with-requires c κs = search needs
 
 returns : tie.Need-returns
 unfolding aimsAnswered
-returns c = rw (c .refused-with .ensures, ← c .before .before .is-askable .ensures, not-true (c .before .before .is-askable .result) (c .before .if1 .taken))
+returns c =
+    let at-if1 : tie.Then1 = search in
+    let at-is-askable : tie.After-is-askable = search in
+    rw (c .refused-with .ensures, ← at-is-askable .is-askable .ensures, not-true (at-is-askable .is-askable .result) (at-if1 .if1 .taken))
 
 are-prices-legal-requires : tie.Need-are-prices-legal-requires
-are-prices-legal-requires c κs = let a = c .before .before .args in askable-mpv (a .kind) (a .side) (a .m) (sym (c .before .is-askable .ensures) ∙ not-false (c .before .is-askable .result) (c .if1 .left))
+are-prices-legal-requires c κs =
+    let at-is-askable : tie.After-is-askable = search in
+    let start : tie.Start = search in
+    let a = start .args in
+    askable-mpv (a .kind) (a .side) (a .m) (sym (at-is-askable .is-askable .ensures) ∙ not-false (at-is-askable .is-askable .result) (c .if1 .left))
 
 refused-with-requires-2 : tie.Need-refused-with-requires-2
 refused-with-requires-2 c κs = search needs
 
 returns-2 : tie.Need-returns-2
 unfolding aimsAnswered
-returns-2 c = rw (c .refused-with2 .ensures, ← c .before .before .before .before .is-askable .ensures, not-false (c .before .before .before .before .is-askable .result) (c .before .before .before .if1 .left), ← c .before .before .are-prices-legal .ensures, not-true (c .before .before .are-prices-legal .result) (c .before .if2 .taken))
+returns-2 c =
+    let at-if2 : tie.Then2 = search in
+    let at-are-prices-legal : tie.After-are-prices-legal = search in
+    let at-if1 : tie.Else1 = search in
+    let at-is-askable : tie.After-is-askable = search in
+    rw (
+      c .refused-with2 .ensures,
+      ← at-is-askable .is-askable .ensures,
+      not-false (at-is-askable .is-askable .result) (at-if1 .if1 .left),
+      ← at-are-prices-legal .are-prices-legal .ensures,
+      not-true (at-are-prices-legal .are-prices-legal .result) (at-if2 .if2 .taken),
+    )
 
 aims-of-requires : tie.Need-aims-of-requires
-aims-of-requires c κs = let a = c .before .before .before .before .args in askable-bounds (a .kind) (a .side) (a .limit) (a .away) (a .contra) (a .m) (sym (c .before .before .before .is-askable .ensures) ∙ not-false (c .before .before .before .is-askable .result) (c .before .before .if1 .left)) (sym (c .before .are-prices-legal .ensures) ∙ not-false (c .before .are-prices-legal .result) (c .if2 .left))
+aims-of-requires c κs =
+    let at-are-prices-legal : tie.After-are-prices-legal = search in
+    let at-if1 : tie.Else1 = search in
+    let at-is-askable : tie.After-is-askable = search in
+    let start : tie.Start = search in
+    let a = start .args in
+    askable-bounds (a .kind) (a .side) (a .limit) (a .away) (a .contra) (a .m)
+    (sym (at-is-askable .is-askable .ensures) ∙ not-false (at-is-askable .is-askable .result) (at-if1 .if1 .left))
+    (sym (at-are-prices-legal .are-prices-legal .ensures) ∙ not-false (at-are-prices-legal .are-prices-legal .result) (c .if2 .left))
 
 returns-3 : tie.Need-returns-3
 unfolding aimsAnswered
-returns-3 c = rw (c .aims-of .ensures, ← c .before .before .before .before .is-askable .ensures, not-false (c .before .before .before .before .is-askable .result) (c .before .before .before .if1 .left), ← c .before .before .are-prices-legal .ensures, not-false (c .before .before .are-prices-legal .result) (c .before .if2 .left))
+returns-3 c =
+    let at-if2 : tie.Else2 = search in
+    let at-are-prices-legal : tie.After-are-prices-legal = search in
+    let at-if1 : tie.Else1 = search in
+    let at-is-askable : tie.After-is-askable = search in
+    rw (
+      c .aims-of .ensures,
+      ← at-is-askable .is-askable .ensures,
+      not-false (at-is-askable .is-askable .result) (at-if1 .if1 .left),
+      ← at-are-prices-legal .are-prices-legal .ensures,
+      not-false (at-are-prices-legal .are-prices-legal .result) (at-if2 .if2 .left),
+    )
 
 pub request-aims-spec : {M : Type 1} → statement M
 request-aims-spec =

@@ -8,7 +8,7 @@ resting-of-requires c κs = search needs
 
 returns : tie.Need-returns
 unfolding atRest
-returns c = rw (c .before .before .resting-of .ensures)
+returns c = let at-resting-of : tie.After-resting-of = search in rw (at-resting-of .resting-of .ensures)
 
 pub is-at-rest-spec : {M : Type 1} → statement M
 is-at-rest-spec = tie.close (tie.spec resting-of-requires returns)

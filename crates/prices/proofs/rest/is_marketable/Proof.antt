@@ -11,7 +11,9 @@ is-reaching-requires c κs = search needs
 
 returns : tie.Need-returns
 unfolding marketable
-returns c = rw (c .is-reaching .ensures, c .before .is-minding .ensures)
+returns c =
+    let at-is-minding : tie.After-is-minding = search in
+    rw (c .is-reaching .ensures, at-is-minding .is-minding .ensures)
 
 pub is-marketable-spec : {M : Type 1} → statement M
 is-marketable-spec = tie.close (tie.spec is-minding-requires is-reaching-requires returns)

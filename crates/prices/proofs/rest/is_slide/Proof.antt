@@ -10,17 +10,31 @@ is-legal-requires c κs = search needs
 
 returns : tie.Need-returns
 unfolding slides
-returns c = rw (← c .before .is-legal .ensures, not-true (c .before .is-legal .result) (c .if1 .taken))
+returns c =
+    let at-is-legal : tie.After-is-legal = search in
+    rw (← at-is-legal .is-legal .ensures, not-true (at-is-legal .is-legal .result) (c .if1 .taken))
 
 is-legal-requires-2 : tie.Need-is-legal-requires-2
 is-legal-requires-2 c κs = search needs
 
 returns-2 : tie.Need-returns-2
 unfolding slides
-returns-2 c = rw (← c .before .before .before .is-legal .ensures, not-false (c .before .before .before .is-legal .result) (c .before .before .if1 .left), ← c .before .is-legal2 .ensures, not-true (c .before .is-legal2 .result) (c .if2 .taken))
+returns-2 c =
+    let at-is-legal2 : tie.After-is-legal2 = search in
+    let at-if1 : tie.Else1 = search in
+    let at-is-legal : tie.After-is-legal = search in
+    rw (
+      ← at-is-legal .is-legal .ensures,
+      not-false (at-is-legal .is-legal .result) (at-if1 .if1 .left),
+      ← at-is-legal2 .is-legal2 .ensures,
+      not-true (at-is-legal2 .is-legal2 .result) (c .if2 .taken),
+    )
 
 one-back-requires : tie.Need-one-back-requires
-one-back-requires c κs = (c .before .before .before .before .pre, sym (c .before .is-legal2 .ensures) ∙ not-false (c .before .is-legal2 .result) (c .if2 .left))
+one-back-requires c κs =
+    let at-is-legal2 : tie.After-is-legal2 = search in
+    let start : tie.Start = search in
+    (start .pre, sym (at-is-legal2 .is-legal2 .ensures) ∙ not-false (at-is-legal2 .is-legal2 .result) (c .if2 .left))
 
 is-reaching-requires : tie.Need-is-reaching-requires
 is-reaching-requires c κs = search needs
@@ -33,7 +47,24 @@ is-reaching-requires-3 c κs = search needs
 
 returns-3 : tie.Need-returns-3
 unfolding slides
-returns-3 c = rw (← c .before .before .before .before .before .before .before .is-legal .ensures, not-false (c .before .before .before .before .before .before .before .is-legal .result) (c .before .before .before .before .before .before .if1 .left), ← c .before .before .before .before .before .is-legal2 .ensures, not-false (c .before .before .before .before .before .is-legal2 .result) (c .before .before .before .before .if2 .left), c .is-reaching3 .ensures, c .before .is-reaching2 .ensures, c .before .before .is-reaching .ensures, c .before .before .before .one-back .ensures)
+returns-3 c =
+    let at-is-reaching2 : tie.After-is-reaching2 = search in
+    let at-is-reaching : tie.After-is-reaching = search in
+    let at-one-back : tie.After-one-back = search in
+    let at-if2 : tie.Else2 = search in
+    let at-is-legal2 : tie.After-is-legal2 = search in
+    let at-if1 : tie.Else1 = search in
+    let at-is-legal : tie.After-is-legal = search in
+    rw (
+      ← at-is-legal .is-legal .ensures,
+      not-false (at-is-legal .is-legal .result) (at-if1 .if1 .left),
+      ← at-is-legal2 .is-legal2 .ensures,
+      not-false (at-is-legal2 .is-legal2 .result) (at-if2 .if2 .left),
+      c .is-reaching3 .ensures,
+      at-is-reaching2 .is-reaching2 .ensures,
+      at-is-reaching .is-reaching .ensures,
+      at-one-back .one-back .ensures,
+    )
 
 pub is-slide-spec : {M : Type 1} → statement M
 is-slide-spec =

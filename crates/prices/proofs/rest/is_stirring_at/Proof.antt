@@ -14,7 +14,10 @@ is-at-rest-requires c κs = search needs
 
 returns : tie.Need-returns
 unfolding stirsAt
-returns c = rw (c .is-at-rest .ensures, c .before .is-marketable .ensures, c .before .before .aims-of .ensures)
+returns c =
+    let at-is-marketable : tie.After-is-marketable = search in
+    let at-aims-of : tie.After-aims-of = search in
+    rw (c .is-at-rest .ensures, at-is-marketable .is-marketable .ensures, at-aims-of .aims-of .ensures)
 
 pub is-stirring-at-spec : {M : Type 1} → statement M
 is-stirring-at-spec =

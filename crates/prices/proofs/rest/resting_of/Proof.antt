@@ -11,7 +11,7 @@ keener-requires-2 c κs = search needs
 
 returns : tie.Need-returns
 unfolding restingPrices
-returns c = rw (c .keener2 .ensures, c .before .keener .ensures)
+returns c = let at-keener : tie.After-keener = search in rw (c .keener2 .ensures, at-keener .keener .ensures)
 
 pub resting-of-spec : {M : Type 1} → statement M
 resting-of-spec = tie.close (tie.spec keener-requires keener-requires-2 returns)

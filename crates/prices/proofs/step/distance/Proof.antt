@@ -11,11 +11,11 @@ less-requires-2 c κs = search needs
 
 returns : tie.Need-returns
 unfolding apart
-returns c = rw (c .before .if1 .taken) (c .less .ensures)
+returns c = let at-if1 : tie.Then1 = search in rw (at-if1 .if1 .taken) (c .less .ensures)
 
 returns-2 : tie.Need-returns-2
 unfolding apart
-returns-2 c = rw (c .before .if1 .left) (c .less2 .ensures)
+returns-2 c = let at-if1 : tie.Else1 = search in rw (at-if1 .if1 .left) (c .less2 .ensures)
 
 pub distance-spec : {M : Type 1} → statement M
 distance-spec = tie.close (tie.spec less-requires less-requires-2 returns returns-2)

@@ -5,10 +5,12 @@ use Rattle.prices.proofs.step.one_back.Statement.{statement}
 use Rattle.prices.proofs.step.one_back.Tie as tie
 
 add-result : tie.Need-add-result
-add-result c = omega (arith, is-legal _ _ (c .before .pre .1) .high, small (is-mpv _ (c .before .pre .0)))
+add-result c =
+    let start : tie.Start = search in
+    omega (arith, is-legal _ _ (start .pre .1) .high, small (is-mpv _ (start .pre .0)))
 
 sub-result : tie.Need-sub-result
-sub-result c = omega (arith, is-legal _ _ (c .before .pre .1) .low)
+sub-result c = let start : tie.Start = search in omega (arith, is-legal _ _ (start .pre .1) .low)
 
 returns : tie.Need-returns
 unfolding back

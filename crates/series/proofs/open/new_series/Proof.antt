@@ -9,7 +9,7 @@ empty-requires : tie.Need-empty-requires
 empty-requires c κs = search needs
 
 returns : tie.Need-returns
-returns c = rw (c .empty .ensures, c .before .new-terms .ensures)
+returns c = let at-new-terms : tie.After-new-terms = search in rw (c .empty .ensures, at-new-terms .new-terms .ensures)
 
 pub new-series-spec : {M : Type 1} → statement M
 new-series-spec = tie.close (tie.spec new-terms-requires empty-requires returns)

@@ -19,13 +19,23 @@ no-series-requires : tie.Need-no-series-requires
 no-series-requires c κs = search needs
 
 returns : tie.Need-returns
-returns c = let s = c .before .before .before .before .before .args .setup .now in rw (c .no-series .ensures, was-nothing (unpackOf setups s) (sym (c .before .before .before .unpack .ensures .0) ∙ c .before .enum-told .given .1)) refl
+returns c =
+    let at-enum-told : tie.After-enum-told = search in
+    let at-unpack : tie.After-unpack = search in
+    let start : tie.Start = search in
+    let s = start .args .setup .now in
+    rw (c .no-series .ensures, was-nothing (unpackOf setups s) (sym (at-unpack .unpack .ensures .0) ∙ at-enum-told .enum-told .given .1)) refl
 
 new-series-requires : tie.Need-new-series-requires
 new-series-requires c κs = search needs
 
 returns-2 : tie.Need-returns-2
-returns-2 c = let s = c .before .before .before .before .before .before .args .setup .now in rw (c .new-series .ensures, was-series (unpackOf setups s) (c .before .before .u .given .0 .0) (sym (c .before .before .before .before .unpack .ensures .0) ∙ c .before .before .u .given .1)) refl
+returns-2 c =
+    let at-u : tie.After-u = search in
+    let at-unpack : tie.After-unpack = search in
+    let start : tie.Start = search in
+    let s = start .args .setup .now in
+    rw (c .new-series .ensures, was-series (unpackOf setups s) (at-u .u .given .0 .0) (sym (at-unpack .unpack .ensures .0) ∙ at-u .u .given .1)) refl
 
 pub open-series-spec : {M : Type 1} → statement M
 open-series-spec =

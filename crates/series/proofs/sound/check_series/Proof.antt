@@ -12,7 +12,12 @@ broken-requires : tie.Need-broken-requires
 broken-requires c κs = search needs
 
 returns : tie.Need-returns
-returns c = terms-fail (c .before .before .before .before .args .s) (c .broken .result) (sym (c .before .before .are-terms-sound .ensures) ∙ not-true (c .before .before .are-terms-sound .result) (c .before .if1 .taken)) (c .broken .ensures)
+returns c =
+    let at-if1 : tie.Then1 = search in
+    let at-are-terms-sound : tie.After-are-terms-sound = search in
+    let start : tie.Start = search in
+    terms-fail (start .args .s) (c .broken .result)
+    (sym (at-are-terms-sound .are-terms-sound .ensures) ∙ not-true (at-are-terms-sound .are-terms-sound .result) (at-if1 .if1 .taken)) (c .broken .ensures)
 
 check-book-requires : tie.Need-check-book-requires
 check-book-requires c κs = search needs
@@ -24,10 +29,29 @@ broken-requires-2 : tie.Need-broken-requires-2
 broken-requires-2 c κs = search needs
 
 returns-2 : tie.Need-returns-2
-returns-2 c = phase-fails (c .before .before .before .before .before .before .before .before .args .s) (c .before .before .before .check-book .result) (sym (c .before .before .before .before .before .before .are-terms-sound .ensures) ∙ not-false (c .before .before .before .before .before .before .are-terms-sound .result) (c .before .before .before .before .before .if1 .left)) (c .before .before .before .check-book .ensures) (c .broken2 .result) (sym (c .before .before .is-phase-sound .ensures) ∙ not-true (c .before .before .is-phase-sound .result) (c .before .if2 .taken)) (c .broken2 .ensures)
+returns-2 c =
+    let at-if2 : tie.Then2 = search in
+    let at-is-phase-sound : tie.After-is-phase-sound = search in
+    let at-check-book : tie.After-check-book = search in
+    let at-if1 : tie.Else1 = search in
+    let at-are-terms-sound : tie.After-are-terms-sound = search in
+    let start : tie.Start = search in
+    phase-fails (start .args .s) (at-check-book .check-book .result)
+    (sym (at-are-terms-sound .are-terms-sound .ensures) ∙ not-false (at-are-terms-sound .are-terms-sound .result) (at-if1 .if1 .left))
+    (at-check-book .check-book .ensures) (c .broken2 .result)
+    (sym (at-is-phase-sound .is-phase-sound .ensures) ∙ not-true (at-is-phase-sound .is-phase-sound .result) (at-if2 .if2 .taken)) (c .broken2 .ensures)
 
 returns-3 : tie.Need-returns-3
-returns-3 c = all-pass (c .before .before .before .before .before .before .before .args .s) (c .before .before .check-book .result) (sym (c .before .before .before .before .before .are-terms-sound .ensures) ∙ not-false (c .before .before .before .before .before .are-terms-sound .result) (c .before .before .before .before .if1 .left)) (c .before .before .check-book .ensures) (sym (c .before .is-phase-sound .ensures) ∙ not-false (c .before .is-phase-sound .result) (c .if2 .left))
+returns-3 c =
+    let at-is-phase-sound : tie.After-is-phase-sound = search in
+    let at-check-book : tie.After-check-book = search in
+    let at-if1 : tie.Else1 = search in
+    let at-are-terms-sound : tie.After-are-terms-sound = search in
+    let start : tie.Start = search in
+    all-pass (start .args .s) (at-check-book .check-book .result)
+    (sym (at-are-terms-sound .are-terms-sound .ensures) ∙ not-false (at-are-terms-sound .are-terms-sound .result) (at-if1 .if1 .left))
+    (at-check-book .check-book .ensures)
+    (sym (at-is-phase-sound .is-phase-sound .ensures) ∙ not-false (at-is-phase-sound .is-phase-sound .result) (c .if2 .left))
 
 pub check-series-spec : {M : Type 1} → statement M
 check-series-spec =

@@ -110,7 +110,10 @@ cast-t69 : tie.Need-cast-t69
 cast-t69 c = search needs
 
 returns : tie.Need-returns
-returns c = let sixteen : length (c .before .before .before .before .args .h .blocked) ≡ 16 = search needs in rw (← told bit false 16 (c .before .before .before .before .args .h .blocked) sixteen)
+returns c =
+    let start : tie.Start = search in
+    let sixteen : length (start .args .h .blocked) ≡ 16 = search needs in
+    rw (← told bit false 16 (start .args .h .blocked) sixteen)
 
 pub code-spec : {M : Type 1} → statement M
 code-spec =

@@ -21,7 +21,9 @@ fits-requires c κs = search needs
 
 returns : tie.Need-returns
 unfolding packs
-returns c = c .fits2 .ensures ∙ ap (allFit (headers .widths)) (c .before .before .before .code .ensures) ∙ sym (and-true _)
+returns c =
+    let at-code : tie.After-code = search in
+    c .fits2 .ensures ∙ ap (allFit (headers .widths)) (at-code .code .ensures) ∙ sym (and-true _)
 
 pub fits-spec : {M : Type 1} → statement M
 fits-spec =

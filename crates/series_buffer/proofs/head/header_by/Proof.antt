@@ -12,7 +12,7 @@ flags-requires : tie.Need-flags-requires
 flags-requires c κs = search needs
 
 returns : tie.Need-returns
-returns c = rw (c .before .terms-by .ensures, c .flags .ensures)
+returns c = let at-terms-by : tie.After-terms-by = search in rw (at-terms-by .terms-by .ensures, c .flags .ensures)
 
 pub header-by-spec : {M : Type 1} → statement M
 header-by-spec = tie.close (tie.spec terms-by-requires array-read-count flags-requires returns)

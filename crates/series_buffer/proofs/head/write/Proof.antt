@@ -25,7 +25,11 @@ same-length c = search needs
 
 returns : tie.Need-returns
 unfolding bytesOf
-returns c = c .before .before .write-all .ensures ∙ ap₂ (λ (n : ℕ) (xs : List ℕ). split (bytes n) (join (headers .widths) xs)) (c .before .before .before .before .before .before .before .before .pre) (c .before .before .before .before .before .before .code .ensures)
+returns c =
+    let at-write-all : tie.After-write-all = search in
+    let at-code : tie.After-code = search in
+    let start : tie.Start = search in
+    at-write-all .write-all .ensures ∙ ap₂ (λ (n : ℕ) (xs : List ℕ). split (bytes n) (join (headers .widths) xs)) (start .pre) (at-code .code .ensures)
 
 pub write-spec : {M : Type 1} → statement M
 write-spec =

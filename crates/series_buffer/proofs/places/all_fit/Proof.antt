@@ -36,7 +36,16 @@ fits-requires : tie.Need-fits-requires Inv-loop μ-loop
 fits-requires c κs = search needs
 
 returns : tie.Need-returns Inv-loop μ-loop
-returns c = let s = c .before .before .before .before .before in (check-fail (packs entries) (s .args .t1) 64 0 (c .before .before .before .before .loop .i) zeroEntry (c .before .before .before .before .loop .inv) (omega (arith, places s)) (c .before .before .before .loop-test .taken) (sym (c .before .fits2 .ensures) ∙ not-true _ (c .if1 .taken)) ∙ ap (all (packs entries)) (take-all 64 (s .args .t1) (omega (arith, places s))), places s)
+returns c =
+    let at-fits2 : tie.After-fits2 Inv-loop μ-loop = search in
+    let at-loop-test : tie.In-loop Inv-loop μ-loop = search in
+    let at-loop : tie.At-loop Inv-loop μ-loop = search in
+    let start : tie.Start Inv-loop μ-loop = search in (
+      check-fail (packs entries) (start .args .t1) 64 0 (at-loop .loop .i) zeroEntry (at-loop .loop .inv) (omega (arith, places start))
+          (at-loop-test .loop-test .taken) (sym (at-fits2 .fits2 .ensures) ∙ not-true _ (c .if1 .taken))
+          ∙ ap (all (packs entries)) (take-all 64 (start .args .t1) (omega (arith, places start))),
+      places start,
+    )
 
 add-i : tie.Need-add-i Inv-loop μ-loop
 add-i c = search needs
@@ -45,10 +54,22 @@ loop-less : tie.Need-loop-less Inv-loop μ-loop
 loop-less c = search needs
 
 loop-again : tie.Need-loop-again Inv-loop μ-loop
-loop-again c = let s = c .before .before .before .before .before in check-past (packs entries) (s .args .t1) 64 0 (c .before .before .before .before .loop .i) zeroEntry (c .before .before .before .before .loop .inv) (omega (arith, places s)) (c .before .before .before .loop-test .taken) (sym (c .before .fits2 .ensures) ∙ not-false _ (c .if1 .left))
+loop-again c =
+    let at-fits2 : tie.After-fits2 Inv-loop μ-loop = search in
+    let at-loop-test : tie.In-loop Inv-loop μ-loop = search in
+    let at-loop : tie.At-loop Inv-loop μ-loop = search in
+    let start : tie.Start Inv-loop μ-loop = search in
+    check-past (packs entries) (start .args .t1) 64 0 (at-loop .loop .i) zeroEntry (at-loop .loop .inv) (omega (arith, places start))
+    (at-loop-test .loop-test .taken) (sym (at-fits2 .fits2 .ensures) ∙ not-false _ (c .if1 .left))
 
 returns-2 : tie.Need-returns-2 Inv-loop μ-loop
-returns-2 c = let s = c .before .before in (check-done (packs entries) (s .args .t1) 64 0 (c .before .loop .i) (c .before .loop .inv) (c .loop-test .left) ∙ ap (all (packs entries)) (take-all 64 (s .args .t1) (omega (arith, places s))), places s)
+returns-2 c =
+    let at-loop : tie.At-loop Inv-loop μ-loop = search in
+    let start : tie.Start Inv-loop μ-loop = search in (
+      check-done (packs entries) (start .args .t1) 64 0 (at-loop .loop .i) (at-loop .loop .inv) (c .loop-test .left)
+          ∙ ap (all (packs entries)) (take-all 64 (start .args .t1) (omega (arith, places start))),
+      places start,
+    )
 
 pub all-fit-spec : {M : Type 1} → statement M
 all-fit-spec =

@@ -18,7 +18,10 @@ cast-t7 : tie.Need-cast-t7
 cast-t7 c = search needs
 
 returns : tie.Need-returns
-returns c = rw (c .before .before .before .before .own-display .ensures, c .before .before .before .pricing-number .ensures)
+returns c =
+    let at-pricing-number : tie.After-pricing-number = search in
+    let at-own-display : tie.After-own-display = search in
+    rw (at-own-display .own-display .ensures, at-pricing-number .pricing-number .ensures)
 
 pub code-spec : {M : Type 1} → statement M
 code-spec =

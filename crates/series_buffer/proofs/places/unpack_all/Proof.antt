@@ -16,7 +16,7 @@ zero-entry-requires : tie.Need-zero-entry-requires Inv-loop μ-loop
 zero-entry-requires c κs = search needs
 
 loop-holds : tie.Need-loop-holds Inv-loop μ-loop
-loop-holds c = read-start (c .before .before .args .s .now) _ (search needs)
+loop-holds c = let start : tie.Start Inv-loop μ-loop = search in read-start (start .args .s .now) _ (search needs)
 
 mul-at : tie.Need-mul-at Inv-loop μ-loop
 mul-at c = search needs
@@ -31,10 +31,20 @@ part-unpack-end : tie.Need-part-unpack-end Inv-loop μ-loop
 part-unpack-end c = search needs
 
 unpack-requires : tie.Need-unpack-requires Inv-loop μ-loop
-unpack-requires c κs = part-read (c .before .before .before .before .before .args .s .now) (c .before .before .loop .i) (c .before .before .before .before .before .pre) (c .before .loop-test .taken)
+unpack-requires c κs =
+    let at-loop-test : tie.In-loop Inv-loop μ-loop = search in
+    let at-loop : tie.At-loop Inv-loop μ-loop = search in
+    let start : tie.Start Inv-loop μ-loop = search in
+    part-read (start .args .s .now) (at-loop .loop .i) (start .pre) (at-loop-test .loop-test .taken)
 
 returns : tie.Need-returns Inv-loop μ-loop
-returns c = read-fail (c .before .before .before .before .before .before .before .before .args .s .now) (c .before .before .before .before .before .loop .i) (c .before .before .before .before .before .loop .entries) (c .before .before .before .before .before .loop .inv) (c .before .before .before .before .loop-test .taken) _ refl (c .before .before .unpack .result .ok) (c .before .before .unpack .result .entry) (c .before .before .unpack .ensures) (not-true _ (c .if1 .taken))
+returns c =
+    let at-unpack : tie.After-unpack Inv-loop μ-loop = search in
+    let at-loop-test : tie.In-loop Inv-loop μ-loop = search in
+    let at-loop : tie.At-loop Inv-loop μ-loop = search in
+    let start : tie.Start Inv-loop μ-loop = search in
+    read-fail (start .args .s .now) (at-loop .loop .i) (at-loop .loop .entries) (at-loop .loop .inv) (at-loop-test .loop-test .taken) _ refl
+    (at-unpack .unpack .result .ok) (at-unpack .unpack .result .entry) (at-unpack .unpack .ensures) (not-true _ (c .if1 .taken))
 
 mul-entries : tie.Need-mul-entries Inv-loop μ-loop
 mul-entries c = search needs
@@ -49,10 +59,20 @@ loop-less : tie.Need-loop-less Inv-loop μ-loop
 loop-less c = search needs
 
 loop-again : tie.Need-loop-again Inv-loop μ-loop
-loop-again c = read-past (c .before .before .before .before .before .before .before .before .before .args .s .now) (c .before .before .before .before .before .before .loop .i) (c .before .before .before .before .before .before .loop .entries) (c .before .before .before .before .before .before .loop .inv) (c .before .before .before .before .before .loop-test .taken) _ refl (c .before .before .before .unpack .result .ok) (c .before .before .before .unpack .result .entry) (c .before .before .before .unpack .ensures) (not-false _ (c .before .if1 .left))
+loop-again c =
+    let at-if1 : tie.Else1 Inv-loop μ-loop = search in
+    let at-unpack : tie.After-unpack Inv-loop μ-loop = search in
+    let at-loop-test : tie.In-loop Inv-loop μ-loop = search in
+    let at-loop : tie.At-loop Inv-loop μ-loop = search in
+    let start : tie.Start Inv-loop μ-loop = search in
+    read-past (start .args .s .now) (at-loop .loop .i) (at-loop .loop .entries) (at-loop .loop .inv) (at-loop-test .loop-test .taken) _ refl
+    (at-unpack .unpack .result .ok) (at-unpack .unpack .result .entry) (at-unpack .unpack .ensures) (not-false _ (at-if1 .if1 .left))
 
 returns-2 : tie.Need-returns-2 Inv-loop μ-loop
-returns-2 c = read-done (c .before .before .before .before .args .s .now) (c .before .loop .i) (c .before .loop .entries) (c .before .loop .inv) (c .loop-test .left)
+returns-2 c =
+    let at-loop : tie.At-loop Inv-loop μ-loop = search in
+    let start : tie.Start Inv-loop μ-loop = search in
+    read-done (start .args .s .now) (at-loop .loop .i) (at-loop .loop .entries) (at-loop .loop .inv) (c .loop-test .left)
 
 pub unpack-all-spec : {M : Type 1} → statement M
 unpack-all-spec =

@@ -15,8 +15,8 @@ returns c =
     let start : tie.Start = search in
     sym (check-no-series (eventIn (start .args .read)) (start .args .m) (sym (at-is-mpv .is-mpv .ensures) ∙ not-true _ (c .if1 .taken)))
 
-enum-known-event : tie.Need-enum-known-event
-enum-known-event c = search needs
+enum-known-read : tie.Need-enum-known-read
+enum-known-read c = search needs
 
 enum-told : tie.Need-enum-told
 enum-told c = search needs
@@ -37,14 +37,14 @@ fault-of-requires c κs =
 
 returns-3 : tie.Need-returns-3
 returns-3 c =
-    let at-event : tie.After-event = search in
+    let at-read : tie.After-read = search in
     let at-if1 : tie.Else1 = search in
     let at-is-mpv : tie.After-is-mpv = search in
     let start : tie.Start = search in
     c .fault-of .ensures
     ∙ sym (check-read (eventIn (start .args .read)) (start .args .m) _ (sym (at-is-mpv .is-mpv .ensures) ∙ not-false _ (at-if1 .if1 .left))
-    (ap eventIn (at-event .event .given .1)))
+    (ap eventIn (at-read .read .given .1)))
 
 pub check-read-spec : {M : Type 1} → statement M
 check-read-spec =
-    tie.close (tie.spec is-mpv-requires returns enum-known-event enum-told returns-2 fault-of-requires returns-3)
+    tie.close (tie.spec is-mpv-requires returns enum-known-read enum-told returns-2 fault-of-requires returns-3)

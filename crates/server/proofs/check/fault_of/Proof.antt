@@ -24,7 +24,11 @@ returns-2 c =
     let at-if1 : tie.Else1 = search in
     let at-is-bad-party : tie.After-is-bad-party = search in
     let at-ask-of : tie.After-ask-of = search in
-    rw (sym (at-ask-of .ask-of .ensures), sym (at-is-bad-party .is-bad-party .ensures) ∙ at-if1 .if1 .left, sym (at-is-bad-price .is-bad-price .ensures) ∙ c .if2 .taken)
+    rw (
+      sym (at-ask-of .ask-of .ensures),
+      sym (at-is-bad-party .is-bad-party .ensures) ∙ at-if1 .if1 .left,
+      sym (at-is-bad-price .is-bad-price .ensures) ∙ c .if2 .taken,
+    )
 
 is-bad-quantity-requires : tie.Need-is-bad-quantity-requires
 is-bad-quantity-requires c κs = search needs
@@ -37,7 +41,12 @@ returns-3 c =
     let at-if1 : tie.Else1 = search in
     let at-is-bad-party : tie.After-is-bad-party = search in
     let at-ask-of : tie.After-ask-of = search in
-    rw (sym (at-ask-of .ask-of .ensures), sym (at-is-bad-party .is-bad-party .ensures) ∙ at-if1 .if1 .left, sym (at-is-bad-price .is-bad-price .ensures) ∙ at-if2 .if2 .left, sym (at-is-bad-quantity .is-bad-quantity .ensures) ∙ c .if3 .taken)
+    rw (
+      sym (at-ask-of .ask-of .ensures),
+      sym (at-is-bad-party .is-bad-party .ensures) ∙ at-if1 .if1 .left,
+      sym (at-is-bad-price .is-bad-price .ensures) ∙ at-if2 .if2 .left,
+      sym (at-is-bad-quantity .is-bad-quantity .ensures) ∙ c .if3 .taken,
+    )
 
 returns-4 : tie.Need-returns-4
 returns-4 c =
@@ -47,7 +56,12 @@ returns-4 c =
     let at-if1 : tie.Else1 = search in
     let at-is-bad-party : tie.After-is-bad-party = search in
     let at-ask-of : tie.After-ask-of = search in
-    rw (sym (at-ask-of .ask-of .ensures), sym (at-is-bad-party .is-bad-party .ensures) ∙ at-if1 .if1 .left, sym (at-is-bad-price .is-bad-price .ensures) ∙ at-if2 .if2 .left, sym (at-is-bad-quantity .is-bad-quantity .ensures) ∙ c .if3 .left)
+    rw (
+      sym (at-ask-of .ask-of .ensures),
+      sym (at-is-bad-party .is-bad-party .ensures) ∙ at-if1 .if1 .left,
+      sym (at-is-bad-price .is-bad-price .ensures) ∙ at-if2 .if2 .left,
+      sym (at-is-bad-quantity .is-bad-quantity .ensures) ∙ c .if3 .left,
+    )
 
 pub fault-of-spec : {M : Type 1} → statement M
 fault-of-spec =

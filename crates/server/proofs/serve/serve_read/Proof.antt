@@ -22,7 +22,8 @@ returns-2 c =
     let at-unpack-series : tie.After-unpack-series = search in
     let at-if1 : tie.Else1 = search in
     let start : tie.Start = search in
-    serve-none (now (start .args .state)) (eventIn (start .args .read)) (now (start .args .room)) (at-if1 .if1 .left) _ (at-unpack-series .unpack-series .ensures) (not-true _ (c .if2 .taken))
+    serve-none (now (start .args .state)) (eventIn (start .args .read)) (now (start .args .room)) (at-if1 .if1 .left) _
+    (at-unpack-series .unpack-series .ensures) (not-true _ (c .if2 .taken))
 
 handle-read-requires : tie.Need-handle-read-requires
 handle-read-requires c κs = search needs
@@ -41,7 +42,9 @@ returns-3 c =
     let at-if1 : tie.Else1 = search in
     let at-slice-known : tie.After-slice-known = search in
     let start : tie.Start = search in
-    serve-refused (now (start .args .state)) (eventIn (start .args .read)) (now (start .args .room)) (at-if1 .if1 .left) _ (at-unpack-series .unpack-series .ensures) (not-false _ (at-if2 .if2 .left)) (at-handle-read .handle-read .result) _ (at-handle-read .handle-read .ensures) (c .if3 .taken) (λ i. at-slice-known .slice-known .given i .fits)
+    serve-refused (now (start .args .state)) (eventIn (start .args .read)) (now (start .args .room)) (at-if1 .if1 .left) _
+    (at-unpack-series .unpack-series .ensures) (not-false _ (at-if2 .if2 .left)) (at-handle-read .handle-read .result) _
+    (at-handle-read .handle-read .ensures) (c .if3 .taken) (λ i. at-slice-known .slice-known .given i .fits)
 
 pack-series-requires : tie.Need-pack-series-requires
 pack-series-requires c κs = search needs
@@ -61,7 +64,9 @@ returns-4 c =
     let at-unpack-series : tie.After-unpack-series = search in
     let at-if1 : tie.Else1 = search in
     let start : tie.Start = search in
-    serve-accepted (now (start .args .state)) (eventIn (start .args .read)) (now (start .args .room)) (at-if1 .if1 .left) _ (at-unpack-series .unpack-series .ensures) (not-false _ (at-if2 .if2 .left)) (at-handle-read .handle-read .result) _ (at-handle-read .handle-read .ensures) (at-if3 .if3 .left) _ (at-pack-series .pack-series .ensures .1)
+    serve-accepted (now (start .args .state)) (eventIn (start .args .read)) (now (start .args .room)) (at-if1 .if1 .left) _
+    (at-unpack-series .unpack-series .ensures) (not-false _ (at-if2 .if2 .left)) (at-handle-read .handle-read .result) _
+    (at-handle-read .handle-read .ensures) (at-if3 .if3 .left) _ (at-pack-series .pack-series .ensures .1)
 
 pub serve-read-spec : {M : Type 1} → statement M
 serve-read-spec =

@@ -8,7 +8,10 @@ open-series-requires : tie.Need-open-series-requires
 open-series-requires c κs = search needs
 
 returns : tie.Need-returns
-returns c = setup-refused (now (c .before .before .before .before .before .args .setup)) (now (c .before .before .before .before .before .args .state)) _ (c .before .before .open-series .ensures) (c .if1 .taken)
+returns c =
+    let at-open-series : tie.After-open-series = search in
+    let start : tie.Start = search in
+    setup-refused (now (start .args .setup)) (now (start .args .state)) _ (at-open-series .open-series .ensures) (c .if1 .taken)
 
 pack-series-requires : tie.Need-pack-series-requires
 pack-series-requires c κs = search needs
@@ -17,13 +20,25 @@ same-length : tie.Need-same-length
 same-length c = search needs
 
 returns-2 : tie.Need-returns-2
-returns-2 c = setup-stored (now (c .before .before .before .before .before .before .before .before .before .before .before .args .setup)) (now (c .before .before .before .before .before .before .before .before .before .before .before .args .state)) _ (c .before .before .before .before .before .before .before .before .open-series .ensures) (c .before .before .before .before .before .before .if1 .left) _ _ (c .before .before .before .pack-series .ensures .0) (c .before .before .before .pack-series .ensures .1) (c .if2 .taken)
+returns-2 c =
+    let at-pack-series : tie.After-pack-series = search in
+    let at-if1 : tie.Else1 = search in
+    let at-open-series : tie.After-open-series = search in
+    let start : tie.Start = search in
+    setup-stored (now (start .args .setup)) (now (start .args .state)) _ (at-open-series .open-series .ensures) (at-if1 .if1 .left) _ _
+    (at-pack-series .pack-series .ensures .0) (at-pack-series .pack-series .ensures .1) (c .if2 .taken)
 
 same-length-2 : tie.Need-same-length-2
 same-length-2 c = search needs
 
 returns-3 : tie.Need-returns-3
-returns-3 c = setup-kept (now (c .before .before .before .before .before .before .before .before .before .before .before .args .setup)) (now (c .before .before .before .before .before .before .before .before .before .before .before .args .state)) _ (c .before .before .before .before .before .before .before .before .open-series .ensures) (c .before .before .before .before .before .before .if1 .left) _ _ (c .before .before .before .pack-series .ensures .0) (c .before .before .before .pack-series .ensures .1) (c .if2 .left)
+returns-3 c =
+    let at-pack-series : tie.After-pack-series = search in
+    let at-if1 : tie.Else1 = search in
+    let at-open-series : tie.After-open-series = search in
+    let start : tie.Start = search in
+    setup-kept (now (start .args .setup)) (now (start .args .state)) _ (at-open-series .open-series .ensures) (at-if1 .if1 .left) _ _
+    (at-pack-series .pack-series .ensures .0) (at-pack-series .pack-series .ensures .1) (c .if2 .left)
 
 pub waxglimmer-setup-spec : {M : Type 1} → statement M
 waxglimmer-setup-spec =

@@ -13,7 +13,7 @@ abbrev μ-loop : tie.MeasureT-loop
 μ-loop market room₀ n₀ book₀ room n book = easings market (entriesOf book)
 
 loop-holds : tie.Need-loop-holds Inv-loop μ-loop
-loop-holds c = ease-start (c .before .pre)
+loop-holds c = let start : tie.Start Inv-loop μ-loop = search in ease-start (start .pre)
 
 first-easing-requires : tie.Need-first-easing-requires Inv-loop μ-loop
 first-easing-requires c κs = c .loop .inv .well
@@ -25,22 +25,38 @@ enum-told : tie.Need-enum-told Inv-loop μ-loop
 enum-told c = search needs
 
 same-length : tie.Need-same-length Inv-loop μ-loop
-same-length c = c .before .before .before .loop .inv .going .kept
+same-length c = let at-loop : tie.At-loop Inv-loop μ-loop = search in at-loop .loop .inv .going .kept
 
 returns : tie.Need-returns Inv-loop μ-loop
-returns c = ease-end (c .before .before .before .loop .inv) (sym (c .enum-told .given .1) ∙ c .before .before .first-easing .ensures)
+returns c =
+    let at-first-easing : tie.After-first-easing Inv-loop μ-loop = search in
+    let at-loop : tie.At-loop Inv-loop μ-loop = search in
+    ease-end (at-loop .loop .inv) (sym (c .enum-told .given .1) ∙ at-first-easing .first-easing .ensures)
 
 ease-at-requires : tie.Need-ease-at-requires Inv-loop μ-loop
 ease-at-requires c κs =
-    ease-asks (c .before .before .before .before .before .before .loop .inv) (c .before .before .before .rank .given .0 .0) (sym (c .before .before .before .rank .given .1) ∙ c .before .before .before .before .before .first-easing .ensures)
+    let at-rank : tie.After-rank Inv-loop μ-loop = search in
+    let at-first-easing : tie.After-first-easing Inv-loop μ-loop = search in
+    let at-loop : tie.At-loop Inv-loop μ-loop = search in
+    ease-asks (at-loop .loop .inv) (at-rank .rank .given .0 .0) (sym (at-rank .rank .given .1) ∙ at-first-easing .first-easing .ensures)
 
 loop-less : tie.Need-loop-less Inv-loop μ-loop
 loop-less c =
-    ease-lower (c .before .before .before .before .before .before .before .before .before .loop .inv) (c .before .before .before .before .before .before .rank .given .0 .0) (sym (c .before .before .before .before .before .before .rank .given .1) ∙ c .before .before .before .before .before .before .before .before .first-easing .ensures) (c .before .before .ease-at .ensures)
+    let at-ease-at : tie.After-ease-at Inv-loop μ-loop = search in
+    let at-rank : tie.After-rank Inv-loop μ-loop = search in
+    let at-first-easing : tie.After-first-easing Inv-loop μ-loop = search in
+    let at-loop : tie.At-loop Inv-loop μ-loop = search in
+    ease-lower (at-loop .loop .inv) (at-rank .rank .given .0 .0) (sym (at-rank .rank .given .1) ∙ at-first-easing .first-easing .ensures)
+    (at-ease-at .ease-at .ensures)
 
 loop-again : tie.Need-loop-again Inv-loop μ-loop
 loop-again c =
-    ease-on (c .before .before .before .before .before .before .before .before .before .loop .inv) (c .before .before .before .before .before .before .rank .given .0 .0) (sym (c .before .before .before .before .before .before .rank .given .1) ∙ c .before .before .before .before .before .before .before .before .first-easing .ensures) (c .before .before .ease-at .ensures)
+    let at-ease-at : tie.After-ease-at Inv-loop μ-loop = search in
+    let at-rank : tie.After-rank Inv-loop μ-loop = search in
+    let at-first-easing : tie.After-first-easing Inv-loop μ-loop = search in
+    let at-loop : tie.At-loop Inv-loop μ-loop = search in
+    ease-on (at-loop .loop .inv) (at-rank .rank .given .0 .0) (sym (at-rank .rank .given .1) ∙ at-first-easing .first-easing .ensures)
+    (at-ease-at .ease-at .ensures)
 
 pub ease-spec : {M : Type 1} → statement M
 ease-spec =

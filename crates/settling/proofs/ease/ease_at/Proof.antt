@@ -18,18 +18,22 @@ eased-entry-requires c κs = search needs
 
 move-to-requires : tie.Need-move-to-requires
 move-to-requires c κs =
-    let s = c .before .before .before .before .before in
-    let e = entryIn (s .args .t1) (s .args .i) in
-    turn-entry (c .before .before .eased-entry .result) (priced (easedPrices (s .args .market) e) e) (c .before .before .eased-entry .ensures) (s .pre)
+    let at-eased-entry : tie.After-eased-entry = search in
+    let start : tie.Start = search in
+    let e = entryIn (start .args .t1) (start .args .i) in
+    turn-entry (at-eased-entry .eased-entry .result) (priced (easedPrices (start .args .market) e) e) (at-eased-entry .eased-entry .ensures) (start .pre)
 
 same-length : tie.Need-same-length
 same-length c = search needs
 
 returns : tie.Need-returns
 returns c =
-    let s = c .before .before .before .before .before .before .before .before in
-    let e = entryIn (s .args .t1) (s .args .i) in
-    staged-entry (s .args .i) (entriesOf (s .args .t1)) (c .before .before .before .before .before .eased-entry .result) (priced (easedPrices (s .args .market) e) e) (c .before .before .before .before .before .eased-entry .ensures) (c .before .before .move-to .ensures)
+    let at-move-to : tie.After-move-to = search in
+    let at-eased-entry : tie.After-eased-entry = search in
+    let start : tie.Start = search in
+    let e = entryIn (start .args .t1) (start .args .i) in
+    staged-entry (start .args .i) (entriesOf (start .args .t1)) (at-eased-entry .eased-entry .result) (priced (easedPrices (start .args .market) e) e)
+    (at-eased-entry .eased-entry .ensures) (at-move-to .move-to .ensures)
 
 pub ease-at-spec : {M : Type 1} → statement M
 ease-at-spec =

@@ -16,7 +16,13 @@ repriced-requires : tie.Need-repriced-requires
 repriced-requires c κs = search needs
 
 returns : tie.Need-returns
-returns c = let s = c .before .before .before .before in Judging.eased-entry (s .args .market) (s .args .e) (c .repriced .result) (c .before .before .before .display-of .ensures) (c .before .before .away-of .ensures) (c .before .eased-to .ensures) (c .repriced .ensures)
+returns c =
+    let at-eased-to : tie.After-eased-to = search in
+    let at-away-of : tie.After-away-of = search in
+    let at-display-of : tie.After-display-of = search in
+    let start : tie.Start = search in
+    Judging.eased-entry (start .args .market) (start .args .e) (c .repriced .result) (at-display-of .display-of .ensures) (at-away-of .away-of .ensures)
+    (at-eased-to .eased-to .ensures) (c .repriced .ensures)
 
 pub eased-entry-spec : {M : Type 1} → statement M
 eased-entry-spec =

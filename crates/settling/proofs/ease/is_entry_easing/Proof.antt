@@ -24,7 +24,10 @@ returns-2 : tie.Need-returns-2
 returns-2 c = search needs
 
 returns-3 : tie.Need-returns-3
-returns-3 c = rw (c .before .before .before .p .given .1, c .is-easing .ensures, c .before .away-of .ensures)
+returns-3 c =
+    let at-away-of : tie.After-away-of = search in
+    let at-p : tie.After-p = search in
+    rw (at-p .p .given .1, c .is-easing .ensures, at-away-of .away-of .ensures)
 
 pub is-entry-easing-spec : {M : Type 1} → statement M
 is-entry-easing-spec =

@@ -10,7 +10,7 @@ tell-repriced-requires : tie.Need-tell-repriced-requires
 tell-repriced-requires c κs = search needs
 
 put-requires : tie.Need-put-requires
-put-requires c κs = roomy-told (c .tell-repriced .ensures) (c .before .before .before .before .pre .roomy)
+put-requires c κs = let start : tie.Start = search in roomy-told (c .tell-repriced .ensures) (start .pre .roomy)
 
 requeued-requires : tie.Need-requeued-requires
 requeued-requires c κs = search needs
@@ -20,8 +20,11 @@ same-length c = search needs
 
 returns : tie.Need-returns
 returns c =
-    let s = c .before .before .before .before .before .before .before .before in
-    staged-go (entriesOf (s .args .b)) (requeue (s .args .i) (s .args .e) (entriesOf (s .args .b))) (c .before .before .before .before .tell-repriced .ensures) (c .before .before .before .put .ensures) (c .requeued .ensures) (requeue-fits (s .args .b) (s .args .i) (s .args .e) (s .pre .place))
+    let at-put : tie.After-put = search in
+    let at-tell-repriced : tie.After-tell-repriced = search in
+    let start : tie.Start = search in
+    staged-go (entriesOf (start .args .b)) (requeue (start .args .i) (start .args .e) (entriesOf (start .args .b))) (at-tell-repriced .tell-repriced .ensures)
+    (at-put .put .ensures) (c .requeued .ensures) (requeue-fits (start .args .b) (start .args .i) (start .args .e) (start .pre .place))
 
 pub move-to-spec : {M : Type 1} → statement M
 move-to-spec =

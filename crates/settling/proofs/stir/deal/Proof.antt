@@ -30,8 +30,12 @@ tell-traded-requires c κs = search needs
 
 put-requires : tie.Need-put-requires
 put-requires c κs =
-    let s = c .before .before .before .before .before .before .before in
-    roomy-told (c .tell-traded .ensures ∙ ap (traded (entryIn (s .args .t1) (s .args .i)) (entryIn (s .args .t1) (s .args .j))) (c .before .before .before .lesser .ensures)) (s .pre .roomy)
+    let at-lesser : tie.After-lesser = search in
+    let start : tie.Start = search in
+    roomy-told
+    (c .tell-traded .ensures
+    ∙ ap (traded (entryIn (start .args .t1) (start .args .i)) (entryIn (start .args .t1) (start .args .j))) (at-lesser .lesser .ensures))
+    (start .pre .roomy)
 
 traded-requires : tie.Need-traded-requires
 traded-requires c κs = search needs
@@ -41,10 +45,17 @@ same-length c = search needs
 
 returns : tie.Need-returns
 returns c =
-    let s = c .before .before .before .before .before .before .before .before .before .before .before in
-    let b = s .args .t1 in
-    let q = dealt b (s .args .i) (s .args .j) in
-    staged-go (entriesOf b) (hitBoth (s .args .i) (s .args .j) q (entriesOf b)) (c .before .before .before .before .tell-traded .ensures ∙ ap (traded (entryIn b (s .args .i)) (entryIn b (s .args .j))) (c .before .before .before .before .before .before .before .lesser .ensures)) (c .before .before .before .put .ensures) (c .traded .ensures ∙ ap (λ (n : ℕ). bookOf (hitBoth (s .args .i) (s .args .j) n (entriesOf b))) (c .before .before .before .before .before .before .before .lesser .ensures)) (both-fits b (s .args .i) (s .args .j) q (s .pre .two .well))
+    let at-put : tie.After-put = search in
+    let at-tell-traded : tie.After-tell-traded = search in
+    let at-lesser : tie.After-lesser = search in
+    let start : tie.Start = search in
+    let b = start .args .t1 in
+    let q = dealt b (start .args .i) (start .args .j) in
+    staged-go (entriesOf b) (hitBoth (start .args .i) (start .args .j) q (entriesOf b))
+    (at-tell-traded .tell-traded .ensures ∙ ap (traded (entryIn b (start .args .i)) (entryIn b (start .args .j))) (at-lesser .lesser .ensures))
+    (at-put .put .ensures)
+    (c .traded .ensures ∙ ap (λ (n : ℕ). bookOf (hitBoth (start .args .i) (start .args .j) n (entriesOf b))) (at-lesser .lesser .ensures))
+    (both-fits b (start .args .i) (start .args .j) q (start .pre .two .well))
 
 pub deal-spec : {M : Type 1} → statement M
 deal-spec =

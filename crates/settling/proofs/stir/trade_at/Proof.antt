@@ -23,22 +23,37 @@ enum-told c = search needs
 
 returns : tie.Need-returns
 returns c =
-    let s = c .before .before .before .before .before in
-    staged-step (entriesOf (s .args .t1)) (trade-none (s .args .t1) (s .args .i) (s .pre .place) (sym (c .enum-told .given .1) ∙ c .before .before .best-contra .ensures)) (staged-stop (s .pre .place .well))
+    let at-best-contra : tie.After-best-contra = search in
+    let start : tie.Start = search in
+    staged-step (entriesOf (start .args .t1))
+    (trade-none (start .args .t1) (start .args .i) (start .pre .place) (sym (c .enum-told .given .1) ∙ at-best-contra .best-contra .ensures))
+    (staged-stop (start .pre .place .well))
 
 deal-requires : tie.Need-deal-requires
 deal-requires c κs =
-    let s = c .before .before .before .before .before .before .before .before in
-    let e = sym (c .before .before .before .rank .given .1) ∙ c .before .before .before .before .before .best-contra .ensures in
-    record { two = trade-two (s .args .t1) (s .args .i) (s .pre .place) (c .before .before .before .rank .given .0 .0) e; roomy = roomy-step (entriesOf (s .args .t1)) (trade-is (s .args .t1) (s .args .i) (s .pre .place) (c .before .before .before .rank .given .0 .0) e) (s .pre .roomy) }
+    let at-rank : tie.After-rank = search in
+    let at-best-contra : tie.After-best-contra = search in
+    let start : tie.Start = search in
+    let e = sym (at-rank .rank .given .1) ∙ at-best-contra .best-contra .ensures in
+    record {
+      two = trade-two (start .args .t1) (start .args .i) (start .pre .place) (at-rank .rank .given .0 .0) e;
+      roomy =
+          roomy-step (entriesOf (start .args .t1)) (trade-is (start .args .t1) (start .args .i) (start .pre .place) (at-rank .rank .given .0 .0) e)
+          (start .pre .roomy);
+    }
 
 same-length : tie.Need-same-length
 same-length c = search needs
 
 returns-2 : tie.Need-returns-2
 returns-2 c =
-    let s = c .before .before .before .before .before .before .before .before .before .before .before in
-    staged-step (entriesOf (s .args .t1)) (trade-is (s .args .t1) (s .args .i) (s .pre .place) (c .before .before .before .before .before .before .rank .given .0 .0) (sym (c .before .before .before .before .before .before .rank .given .1) ∙ c .before .before .before .before .before .before .before .before .best-contra .ensures)) (c .before .before .deal .ensures)
+    let at-deal : tie.After-deal = search in
+    let at-rank : tie.After-rank = search in
+    let at-best-contra : tie.After-best-contra = search in
+    let start : tie.Start = search in
+    staged-step (entriesOf (start .args .t1))
+    (trade-is (start .args .t1) (start .args .i) (start .pre .place) (at-rank .rank .given .0 .0)
+    (sym (at-rank .rank .given .1) ∙ at-best-contra .best-contra .ensures)) (at-deal .deal .ensures)
 
 pub trade-at-spec : {M : Type 1} → statement M
 trade-at-spec =

@@ -6,7 +6,7 @@ is-legal-requires : tie.Need-is-legal-requires
 is-legal-requires c κs = search needs
 
 returns : tie.Need-returns
-returns c = rw (c .before .before .is-legal .ensures)
+returns c = let at-is-legal : tie.After-is-legal = search in rw (at-is-legal .is-legal .ensures)
 
 pub is-sized-spec : {M : Type 1} → statement M
 is-sized-spec = tie.close (tie.spec is-legal-requires returns)

@@ -6,7 +6,7 @@ is-fixed-requires : tie.Need-is-fixed-requires
 is-fixed-requires c κs = search needs
 
 returns : tie.Need-returns
-returns c = rw (c .before .before .before .before .before .before .before .is-fixed .ensures)
+returns c = let at-is-fixed : tie.After-is-fixed = search in rw (at-is-fixed .is-fixed .ensures)
 
 pub is-unused-spec : {M : Type 1} → statement M
 is-unused-spec = tie.close (tie.spec is-fixed-requires returns)

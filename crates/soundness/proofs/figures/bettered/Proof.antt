@@ -39,7 +39,33 @@ is-quote-requires : tie.Need-is-quote-requires
 is-quote-requires c κs = search needs
 
 returns : tie.Need-returns
-returns c = rw (c .before .is-quote .ensures, c .before .before .lower-of2 .ensures, c .before .before .before .sells-at2 .ensures, c .before .before .before .before .higher-of3 .ensures, c .before .before .before .before .before .buys-at2 .ensures, c .before .before .before .before .before .before .lower-of .ensures, c .before .before .before .before .before .before .before .sells-at .ensures, c .before .before .before .before .before .before .before .before .higher-of2 .ensures, c .before .before .before .before .before .before .before .before .before .buys-at .ensures, c .before .before .before .before .before .before .before .before .before .before .higher-of .ensures, c .before .before .before .before .before .before .before .before .before .before .before .held-of .ensures, c .before .before .before .before .before .before .before .before .before .before .before .before .display-of .ensures)
+returns c =
+    let at-is-quote : tie.After-is-quote = search in
+    let at-lower-of2 : tie.After-lower-of2 = search in
+    let at-sells-at2 : tie.After-sells-at2 = search in
+    let at-higher-of3 : tie.After-higher-of3 = search in
+    let at-buys-at2 : tie.After-buys-at2 = search in
+    let at-lower-of : tie.After-lower-of = search in
+    let at-sells-at : tie.After-sells-at = search in
+    let at-higher-of2 : tie.After-higher-of2 = search in
+    let at-buys-at : tie.After-buys-at = search in
+    let at-higher-of : tie.After-higher-of = search in
+    let at-held-of : tie.After-held-of = search in
+    let at-display-of : tie.After-display-of = search in
+    rw (
+      at-is-quote .is-quote .ensures,
+      at-lower-of2 .lower-of2 .ensures,
+      at-sells-at2 .sells-at2 .ensures,
+      at-higher-of3 .higher-of3 .ensures,
+      at-buys-at2 .buys-at2 .ensures,
+      at-lower-of .lower-of .ensures,
+      at-sells-at .sells-at .ensures,
+      at-higher-of2 .higher-of2 .ensures,
+      at-buys-at .buys-at .ensures,
+      at-higher-of .higher-of .ensures,
+      at-held-of .held-of .ensures,
+      at-display-of .display-of .ensures,
+    )
 
 pub bettered-spec : {M : Type 1} → statement M
 bettered-spec =

@@ -23,7 +23,12 @@ element-copy-out-if1 : tie.Need-element-copy-out-if1 Inv-loop μ-loop
 element-copy-out-if1 c = search needs
 
 returns : tie.Need-returns Inv-loop μ-loop
-returns c = let s = c .before .before .before .before in let at = c .before .before .before .loop in ask-hit _ _ _ (at .i) 0 (at .inv) (omega (arith, s .pre .0, s .pre .1)) (c .before .before .loop-test .taken) (eq-eqb _ _ (c .if1 .taken))
+returns c =
+    let at-loop-test : tie.In-loop Inv-loop μ-loop = search in
+    let at-loop : tie.At-loop Inv-loop μ-loop = search in
+    let start : tie.Start Inv-loop μ-loop = search in
+    let at = at-loop .loop in
+    ask-hit _ _ _ (at .i) 0 (at .inv) (omega (arith, start .pre .0, start .pre .1)) (at-loop-test .loop-test .taken) (eq-eqb _ _ (c .if1 .taken))
 
 add-i : tie.Need-add-i Inv-loop μ-loop
 add-i c = search needs
@@ -32,10 +37,17 @@ loop-less : tie.Need-loop-less Inv-loop μ-loop
 loop-less c = search needs
 
 loop-again : tie.Need-loop-again Inv-loop μ-loop
-loop-again c = let s = c .before .before .before .before in let at = c .before .before .before .loop in ask-past _ _ _ (at .i) 0 (at .inv) (omega (arith, s .pre .0, s .pre .1)) (c .before .before .loop-test .taken) (ne-eqb _ _ (c .if1 .left))
+loop-again c =
+    let at-loop-test : tie.In-loop Inv-loop μ-loop = search in
+    let at-loop : tie.At-loop Inv-loop μ-loop = search in
+    let start : tie.Start Inv-loop μ-loop = search in
+    let at = at-loop .loop in
+    ask-past _ _ _ (at .i) 0 (at .inv) (omega (arith, start .pre .0, start .pre .1)) (at-loop-test .loop-test .taken) (ne-eqb _ _ (c .if1 .left))
 
 returns-2 : tie.Need-returns-2 Inv-loop μ-loop
-returns-2 c = ask-none _ _ _ (c .before .loop .i) (c .before .loop .inv) (c .loop-test .left)
+returns-2 c =
+    let at-loop : tie.At-loop Inv-loop μ-loop = search in
+    ask-none _ _ _ (at-loop .loop .i) (at-loop .loop .inv) (c .loop-test .left)
 
 pub is-listed-spec : {M : Type 1} → statement M
 is-listed-spec =

@@ -10,7 +10,7 @@ is-listed-requires : tie.Need-is-listed-requires
 is-listed-requires c κs = search needs
 
 returns-2 : tie.Need-returns-2
-returns-2 c = rw (le-ltb _ _ (c .before .if1 .left), c .is-listed .ensures)
+returns-2 c = let at-if1 : tie.Else1 = search in rw (le-ltb _ _ (at-if1 .if1 .left), c .is-listed .ensures)
 
 pub is-new-spec : {M : Type 1} → statement M
 is-new-spec = tie.close (tie.spec returns is-listed-requires returns-2)

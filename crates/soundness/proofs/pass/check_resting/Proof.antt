@@ -32,7 +32,16 @@ broken-requires c κs = search needs
 
 returns : tie.Need-returns Inv-loop μ-loop
 unfolding entriesOf
-returns c = let at = c .before .before .before .before .before .loop in let s = c .before .before .before .before .before .before in refused (entry-fails (at .inv) (omega (arith, s .pre .few, s .pre .places)) (c .before .before .before .before .loop-test .taken) (sym (c .before .before .is-sound-entry .ensures) ∙ not-true (c .before .before .is-sound-entry .result) (c .before .if1 .taken))) (c .broken .ensures)
+returns c =
+    let at-if1 : tie.Then1 Inv-loop μ-loop = search in
+    let at-is-sound-entry : tie.After-is-sound-entry Inv-loop μ-loop = search in
+    let at-loop-test : tie.In-loop Inv-loop μ-loop = search in
+    let at-loop : tie.At-loop Inv-loop μ-loop = search in
+    let start : tie.Start Inv-loop μ-loop = search in
+    let at = at-loop .loop in
+    refused
+    (entry-fails (at .inv) (omega (arith, start .pre .few, start .pre .places)) (at-loop-test .loop-test .taken)
+    (sym (at-is-sound-entry .is-sound-entry .ensures) ∙ not-true (at-is-sound-entry .is-sound-entry .result) (at-if1 .if1 .taken))) (c .broken .ensures)
 
 is-new-requires : tie.Need-is-new-requires Inv-loop μ-loop
 is-new-requires c κs = search needs
@@ -42,23 +51,55 @@ broken-requires-2 c κs = search needs
 
 returns-2 : tie.Need-returns-2 Inv-loop μ-loop
 unfolding entriesOf
-returns-2 c = let at = c .before .before .before .before .before .before .before .before .loop in let s = c .before .before .before .before .before .before .before .before .before in refused (number-fails (at .inv) (omega (arith, s .pre .few, s .pre .places)) (c .before .before .before .before .before .before .before .loop-test .taken) (sym (c .before .before .is-new .ensures) ∙ not-true (c .before .before .is-new .result) (c .before .if2 .taken))) (c .broken2 .ensures)
+returns-2 c =
+    let at-if2 : tie.Then2 Inv-loop μ-loop = search in
+    let at-is-new : tie.After-is-new Inv-loop μ-loop = search in
+    let at-loop-test : tie.In-loop Inv-loop μ-loop = search in
+    let at-loop : tie.At-loop Inv-loop μ-loop = search in
+    let start : tie.Start Inv-loop μ-loop = search in
+    let at = at-loop .loop in
+    refused
+    (number-fails (at .inv) (omega (arith, start .pre .few, start .pre .places)) (at-loop-test .loop-test .taken)
+    (sym (at-is-new .is-new .ensures) ∙ not-true (at-is-new .is-new .result) (at-if2 .if2 .taken))) (c .broken2 .ensures)
 
 seat-of-requires : tie.Need-seat-of-requires Inv-loop μ-loop
 seat-of-requires c κs = search needs
 
 array-read-if3 : tie.Need-array-read-if3 Inv-loop μ-loop
-array-read-if3 c = rw (c .seat-of .ensures) (seat-low _ _ _ (clauses-of _ _ _ (sym (c .before .before .before .before .before .is-sound-entry .ensures) ∙ not-false (c .before .before .before .before .before .is-sound-entry .result) (c .before .before .before .before .if1 .left))))
+array-read-if3 c =
+    let at-if1 : tie.Else1 Inv-loop μ-loop = search in
+    let at-is-sound-entry : tie.After-is-sound-entry Inv-loop μ-loop = search in
+    rw (c .seat-of .ensures)
+    (seat-low _ _ _
+    (clauses-of _ _ _ (sym (at-is-sound-entry .is-sound-entry .ensures) ∙ not-false (at-is-sound-entry .is-sound-entry .result) (at-if1 .if1 .left))))
 
 broken-requires-3 : tie.Need-broken-requires-3 Inv-loop μ-loop
 broken-requires-3 c κs = search needs
 
 returns-3 : tie.Need-returns-3 Inv-loop μ-loop
 unfolding entriesOf
-returns-3 c = let at = c .before .before .before .before .before .before .before .before .before .before .loop in let s = c .before .before .before .before .before .before .before .before .before .before .before in refused (seat-fails (at .inv) (omega (arith, s .pre .few, s .pre .places)) (c .before .before .before .before .before .before .before .before .before .loop-test .taken) (sym (c .before .before .before .before .before .before .before .is-sound-entry .ensures) ∙ not-false (c .before .before .before .before .before .before .before .is-sound-entry .result) (c .before .before .before .before .before .before .if1 .left)) (rw (← c .before .before .seat-of .ensures) (c .before .if3 .taken))) (c .broken3 .ensures)
+returns-3 c =
+    let at-if3 : tie.Then3 Inv-loop μ-loop = search in
+    let at-seat-of : tie.After-seat-of Inv-loop μ-loop = search in
+    let at-if1 : tie.Else1 Inv-loop μ-loop = search in
+    let at-is-sound-entry : tie.After-is-sound-entry Inv-loop μ-loop = search in
+    let at-loop-test : tie.In-loop Inv-loop μ-loop = search in
+    let at-loop : tie.At-loop Inv-loop μ-loop = search in
+    let start : tie.Start Inv-loop μ-loop = search in
+    let at = at-loop .loop in
+    refused
+    (seat-fails (at .inv) (omega (arith, start .pre .few, start .pre .places)) (at-loop-test .loop-test .taken)
+    (sym (at-is-sound-entry .is-sound-entry .ensures) ∙ not-false (at-is-sound-entry .is-sound-entry .result) (at-if1 .if1 .left))
+    (rw (← at-seat-of .seat-of .ensures) (at-if3 .if3 .taken))) (c .broken3 .ensures)
 
 array-write-seats : tie.Need-array-write-seats Inv-loop μ-loop
-array-write-seats c = rw (c .before .seat-of .ensures) (seat-low _ _ _ (clauses-of _ _ _ (sym (c .before .before .before .before .before .before .is-sound-entry .ensures) ∙ not-false (c .before .before .before .before .before .before .is-sound-entry .result) (c .before .before .before .before .before .if1 .left))))
+array-write-seats c =
+    let at-seat-of : tie.After-seat-of Inv-loop μ-loop = search in
+    let at-if1 : tie.Else1 Inv-loop μ-loop = search in
+    let at-is-sound-entry : tie.After-is-sound-entry Inv-loop μ-loop = search in
+    rw (at-seat-of .seat-of .ensures)
+    (seat-low _ _ _
+    (clauses-of _ _ _ (sym (at-is-sound-entry .is-sound-entry .ensures) ∙ not-false (at-is-sound-entry .is-sound-entry .result) (at-if1 .if1 .left))))
 
 mul-numbers : tie.Need-mul-numbers Inv-loop μ-loop
 mul-numbers c = search needs
@@ -76,14 +117,33 @@ loop-less : tie.Need-loop-less Inv-loop μ-loop
 loop-less c = search needs
 
 loop-again : tie.Need-loop-again Inv-loop μ-loop
-loop-again c = let at = c .before .before .before .before .before .before .before .before .before .before .loop in let s = c .before .before .before .before .before .before .before .before .before .before .before in rw (c .bettered .ensures, c .before .before .seat-of .ensures) (read-more (at .inv) (omega (arith, s .pre .few, s .pre .places)) (c .before .before .before .before .before .before .before .before .before .loop-test .taken) (sym (c .before .before .before .before .before .before .before .is-sound-entry .ensures) ∙ not-false (c .before .before .before .before .before .before .before .is-sound-entry .result) (c .before .before .before .before .before .before .if1 .left)) (sym (c .before .before .before .before .is-new .ensures) ∙ not-false (c .before .before .before .before .is-new .result) (c .before .before .before .if2 .left)) (rw (← c .before .before .seat-of .ensures) (c .before .if3 .left)) (s .pre .few) (s .pre .step))
+loop-again c =
+    let at-if3 : tie.Else3 Inv-loop μ-loop = search in
+    let at-seat-of : tie.After-seat-of Inv-loop μ-loop = search in
+    let at-if2 : tie.Else2 Inv-loop μ-loop = search in
+    let at-is-new : tie.After-is-new Inv-loop μ-loop = search in
+    let at-if1 : tie.Else1 Inv-loop μ-loop = search in
+    let at-is-sound-entry : tie.After-is-sound-entry Inv-loop μ-loop = search in
+    let at-loop-test : tie.In-loop Inv-loop μ-loop = search in
+    let at-loop : tie.At-loop Inv-loop μ-loop = search in
+    let start : tie.Start Inv-loop μ-loop = search in
+    let at = at-loop .loop in
+    rw (c .bettered .ensures, at-seat-of .seat-of .ensures)
+    (read-more (at .inv) (omega (arith, start .pre .few, start .pre .places)) (at-loop-test .loop-test .taken)
+    (sym (at-is-sound-entry .is-sound-entry .ensures) ∙ not-false (at-is-sound-entry .is-sound-entry .result) (at-if1 .if1 .left))
+    (sym (at-is-new .is-new .ensures) ∙ not-false (at-is-new .is-new .result) (at-if2 .if2 .left))
+    (rw (← at-seat-of .seat-of .ensures) (at-if3 .if3 .left)) (start .pre .few) (start .pre .step))
 
 passed-requires : tie.Need-passed-requires Inv-loop μ-loop
 passed-requires c κs = search needs
 
 returns-4 : tie.Need-returns-4 Inv-loop μ-loop
 unfolding entriesOf
-returns-4 c = read-done (c .before .before .before .pre .step) (c .before .before .loop .inv) (c .before .loop-test .left) (c .passed .result) (c .passed .ensures)
+returns-4 c =
+    let at-loop-test : tie.After-loop Inv-loop μ-loop = search in
+    let at-loop : tie.At-loop Inv-loop μ-loop = search in
+    let start : tie.Start Inv-loop μ-loop = search in
+    read-done (start .pre .step) (at-loop .loop .inv) (at-loop-test .loop-test .left) (c .passed .result) (c .passed .ensures)
 
 pub check-resting-spec : {M : Type 1} → statement M
 check-resting-spec =

@@ -37,7 +37,17 @@ is-unused-requires : tie.Need-is-unused-requires Inv-loop μ-loop
 is-unused-requires c κs = search needs
 
 returns : tie.Need-returns Inv-loop μ-loop
-returns c = let at = c .before .before .before .before in let s = at .before in (check-fail _ _ _ _ (at .loop .i) zeroEntry (at .loop .inv) (omega (arith, places s)) (c .before .before .before .loop-test .taken) (sym (c .before .is-unused .ensures) ∙ not-true (c .before .is-unused .result) (c .if1 .taken)) ∙ ap (λ (l : List Entry). all unusedEntry (drop (s .args .t1 .count) l)) (take-all 64 (s .args .t1 .entries) (omega (arith, places s))), places s)
+returns c =
+    let at-is-unused : tie.After-is-unused Inv-loop μ-loop = search in
+    let at-loop-test : tie.In-loop Inv-loop μ-loop = search in
+    let at-loop : tie.At-loop Inv-loop μ-loop = search in
+    let start : tie.Start Inv-loop μ-loop = search in (
+      check-fail _ _ _ _ (at-loop .loop .i) zeroEntry (at-loop .loop .inv) (omega (arith, places start)) (at-loop-test .loop-test .taken)
+          (sym (at-is-unused .is-unused .ensures) ∙ not-true (at-is-unused .is-unused .result) (c .if1 .taken))
+          ∙ ap (λ (l : List Entry). all unusedEntry (drop (start .args .t1 .count) l))
+          (take-all 64 (start .args .t1 .entries) (omega (arith, places start))),
+      places start,
+    )
 
 add-i : tie.Need-add-i Inv-loop μ-loop
 add-i c = search needs
@@ -46,10 +56,22 @@ loop-less : tie.Need-loop-less Inv-loop μ-loop
 loop-less c = search needs
 
 loop-again : tie.Need-loop-again Inv-loop μ-loop
-loop-again c = let at = c .before .before .before .before in let s = at .before in check-past _ _ _ _ (at .loop .i) zeroEntry (at .loop .inv) (omega (arith, places s)) (c .before .before .before .loop-test .taken) (sym (c .before .is-unused .ensures) ∙ not-false (c .before .is-unused .result) (c .if1 .left))
+loop-again c =
+    let at-is-unused : tie.After-is-unused Inv-loop μ-loop = search in
+    let at-loop-test : tie.In-loop Inv-loop μ-loop = search in
+    let at-loop : tie.At-loop Inv-loop μ-loop = search in
+    let start : tie.Start Inv-loop μ-loop = search in
+    check-past _ _ _ _ (at-loop .loop .i) zeroEntry (at-loop .loop .inv) (omega (arith, places start)) (at-loop-test .loop-test .taken)
+    (sym (at-is-unused .is-unused .ensures) ∙ not-false (at-is-unused .is-unused .result) (c .if1 .left))
 
 returns-2 : tie.Need-returns-2 Inv-loop μ-loop
-returns-2 c = let s = c .before .before in (check-done _ _ _ _ (c .before .loop .i) (c .before .loop .inv) (c .loop-test .left) ∙ ap (λ (l : List Entry). all unusedEntry (drop (s .args .t1 .count) l)) (take-all 64 (s .args .t1 .entries) (omega (arith, places s))), places s)
+returns-2 c =
+    let at-loop : tie.At-loop Inv-loop μ-loop = search in
+    let start : tie.Start Inv-loop μ-loop = search in (
+      check-done _ _ _ _ (at-loop .loop .i) (at-loop .loop .inv) (c .loop-test .left)
+          ∙ ap (λ (l : List Entry). all unusedEntry (drop (start .args .t1 .count) l)) (take-all 64 (start .args .t1 .entries) (omega (arith, places start))),
+      places start,
+    )
 
 pub is-rest-unused-spec : {M : Type 1} → statement M
 is-rest-unused-spec =

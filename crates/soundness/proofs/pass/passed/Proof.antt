@@ -12,13 +12,21 @@ lowest-of-requires-2 : tie.Need-lowest-of-requires-2
 lowest-of-requires-2 c κs = search needs
 
 returns : tie.Need-returns
-returns c = rw (c .lowest-of2 .ensures, ← c .before .before .before .lowest-of .ensures, ← c .before .before .is-apart .ensures, c .before .if1 .taken)
+returns c =
+    let at-if1 : tie.Then1 = search in
+    let at-is-apart : tie.After-is-apart = search in
+    let at-lowest-of : tie.After-lowest-of = search in
+    rw (c .lowest-of2 .ensures, ← at-lowest-of .lowest-of .ensures, ← at-is-apart .is-apart .ensures, at-if1 .if1 .taken)
 
 broken-requires : tie.Need-broken-requires
 broken-requires c κs = search needs
 
 returns-2 : tie.Need-returns-2
-returns-2 c = rw (← c .before .before .before .lowest-of .ensures, ← c .before .before .is-apart .ensures, c .before .if1 .left) (c .broken .ensures)
+returns-2 c =
+    let at-if1 : tie.Else1 = search in
+    let at-is-apart : tie.After-is-apart = search in
+    let at-lowest-of : tie.After-lowest-of = search in
+    rw (← at-lowest-of .lowest-of .ensures, ← at-is-apart .is-apart .ensures, at-if1 .if1 .left) (c .broken .ensures)
 
 pub passed-spec : {M : Type 1} → statement M
 passed-spec =

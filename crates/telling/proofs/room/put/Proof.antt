@@ -13,7 +13,10 @@ same-length : tie.Need-same-length
 same-length c = search needs
 
 returns : tie.Need-returns
-returns c = put-is (c .before .before .before .before .before .before .pre) (c .before .before .put-report .ensures .1)
+returns c =
+    let at-put-report : tie.After-put-report = search in
+    let start : tie.Start = search in
+    put-is (start .pre) (at-put-report .put-report .ensures .1)
 
 pub put-spec : {M : Type 1} → statement M
 put-spec = tie.close (tie.spec put-report-requires add-n same-length returns)

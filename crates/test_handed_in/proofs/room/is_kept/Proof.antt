@@ -22,7 +22,7 @@ to-the-end : (l : List ℕ) (from : ℕ) → all filling (drop from (take (lengt
 to-the-end l from = ap (λ (k : List ℕ). all filling (drop from k)) (take-length l)
 
 loop-holds : tie.Need-loop-holds Inv-loop μ-loop
-loop-holds c = check-start _ _ _ _ (c .before .pre)
+loop-holds c = let start : tie.Start Inv-loop μ-loop = search in check-start _ _ _ _ (start .pre)
 
 shared-slice-read-is-filling : tie.Need-shared-slice-read-is-filling Inv-loop μ-loop
 shared-slice-read-is-filling c = search needs
@@ -32,10 +32,13 @@ is-filling-requires c κs = search needs
 
 returns : tie.Need-returns Inv-loop μ-loop
 returns c =
-    let at = c .before .before .before .before in
-    let a = at .before .before .args in
-    check-fail _ _ _ _ (at .loop .i) 0 (at .loop .inv) (omega arith) (c .before .before .before .loop-test .taken)
-    (sym (c .before .is-filling .ensures) ∙ not-true (c .before .is-filling .result) (c .if1 .taken))
+    let at-is-filling : tie.After-is-filling Inv-loop μ-loop = search in
+    let at-loop-test : tie.In-loop Inv-loop μ-loop = search in
+    let at-loop : tie.At-loop Inv-loop μ-loop = search in
+    let start : tie.Start Inv-loop μ-loop = search in
+    let a = start .args in
+    check-fail _ _ _ _ (at-loop .loop .i) 0 (at-loop .loop .inv) (omega arith) (at-loop-test .loop-test .taken)
+    (sym (at-is-filling .is-filling .ensures) ∙ not-true (at-is-filling .is-filling .result) (c .if1 .taken))
     ∙ to-the-end (a .room .now) (a .from)
 
 add-i : tie.Need-add-i Inv-loop μ-loop
@@ -46,14 +49,18 @@ loop-less c = search needs
 
 loop-again : tie.Need-loop-again Inv-loop μ-loop
 loop-again c =
-    let at = c .before .before .before .before in
-    check-past _ _ _ _ (at .loop .i) 0 (at .loop .inv) (omega arith) (c .before .before .before .loop-test .taken)
-    (sym (c .before .is-filling .ensures) ∙ not-false (c .before .is-filling .result) (c .if1 .left))
+    let at-is-filling : tie.After-is-filling Inv-loop μ-loop = search in
+    let at-loop-test : tie.In-loop Inv-loop μ-loop = search in
+    let at-loop : tie.At-loop Inv-loop μ-loop = search in
+    check-past _ _ _ _ (at-loop .loop .i) 0 (at-loop .loop .inv) (omega arith) (at-loop-test .loop-test .taken)
+    (sym (at-is-filling .is-filling .ensures) ∙ not-false (at-is-filling .is-filling .result) (c .if1 .left))
 
 returns-2 : tie.Need-returns-2 Inv-loop μ-loop
 returns-2 c =
-    let a = c .before .before .before .args in
-    check-done _ _ _ _ (c .before .loop .i) (c .before .loop .inv) (c .loop-test .left) ∙ to-the-end (a .room .now) (a .from)
+    let at-loop : tie.At-loop Inv-loop μ-loop = search in
+    let start : tie.Start Inv-loop μ-loop = search in
+    let a = start .args in
+    check-done _ _ _ _ (at-loop .loop .i) (at-loop .loop .inv) (c .loop-test .left) ∙ to-the-end (a .room .now) (a .from)
 
 pub is-kept-spec : {M : Type 1} → statement M
 is-kept-spec =

@@ -6,7 +6,7 @@ sort-of-requires : tie.Need-sort-of-requires
 sort-of-requires c κs = search needs
 
 returns : tie.Need-returns
-returns c = rw (c .before .before .before .before .before .before .before .sort-of .ensures)
+returns c = let at-sort-of : tie.After-sort-of = search in rw (at-sort-of .sort-of .ensures)
 
 pub is-blank-spec : {M : Type 1} → statement M
 is-blank-spec = tie.close (tie.spec sort-of-requires returns)

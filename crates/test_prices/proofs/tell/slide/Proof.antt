@@ -7,7 +7,7 @@ is-mpv-requires : tie.Need-is-mpv-requires
 is-mpv-requires c κs = search needs
 
 is-slide-requires : tie.Need-is-slide-requires
-is-slide-requires c κs = sym (c .before .is-mpv .ensures) ∙ c .if1 .taken
+is-slide-requires c κs = let at-is-mpv : tie.After-is-mpv = search in sym (at-is-mpv .is-mpv .ensures) ∙ c .if1 .taken
 
 truth-requires : tie.Need-truth-requires
 truth-requires c κs = search needs

@@ -14,7 +14,9 @@ is-mpv-requires : tie.Need-is-mpv-requires
 is-mpv-requires c κs = search needs
 
 stop-of-requires : tie.Need-stop-of-requires
-stop-of-requires c κs = (sym (c .before .is-mpv .ensures) ∙ c .if2 .taken, omega arith)
+stop-of-requires c κs =
+    let at-is-mpv : tie.After-is-mpv = search in
+    (sym (at-is-mpv .is-mpv .ensures) ∙ c .if2 .taken, omega arith)
 
 number-requires : tie.Need-number-requires
 number-requires c κs = search needs
