@@ -11,7 +11,7 @@ typedef size_t Player(const uint8_t *setup, size_t setup_length, const uint8_t *
 
 enum { PROVED, ENGINE };
 
-Player waxglimmer_play; /* crate played */
+Player waxglimmer_play; /* crate bench_played */
 
 static size_t engine_play(const uint8_t *setup, size_t setup_length, const uint8_t *run, size_t run_length, uint8_t *out, size_t out_length) {
   static Series s;

@@ -68,7 +68,7 @@ extern "C" {
 #define WAXGLIMMER_REPORT 14   /* bytes of a report */
 #define WAXGLIMMER_REPORTS 2280 /* the most reports that one message gives */
 #define WAXGLIMMER_ROOM 31920  /* the least bytes of a report room: 2,280 reports of 14 */
-#define WAXGLIMMER_STATE 1564  /* bytes of a series; crates/state/src/lib.rt has the layout */
+#define WAXGLIMMER_STATE 1564  /* bytes of a series; crates/series_buffer/src/lib.rt has the layout */
 #define WAXGLIMMER_STACK 65536 /* bytes of stack with which a thread can make every call: tried by c/test.sh, not proved */
 
 /* The aims of one quote. kind 3 (MMALO) or 4 (MMRP); side 0 buy, 1 sell; limit; away and contra price, 0 for none; m 1, 5 or 10.

@@ -1,8 +1,8 @@
 #!/usr/bin/env python3
-"""Makes the bundle of the crate `lessons`: every lesson of tests/lessons and of
+"""Makes the bundle of the crate `test_lessons`: every lesson of tests/lessons and of
 tests/recorded, and what must be printed for it.
 
-    python3 tests/bundle.py           writes crates/lessons/stdin and stdout
+    python3 tests/bundle.py           writes crates/test_lessons/stdin and stdout
     python3 tests/bundle.py --check   only says whether they are up to date
 
 Of each lesson the bundle has the length of its name and the name, the length of
@@ -36,4 +36,4 @@ def bundled():
 
 
 if __name__ == "__main__":
-    keep("lessons", bundled())
+    keep("test_lessons", bundled())

@@ -1,7 +1,7 @@
 #!/usr/bin/env python3
-"""The table of the crate `handed_in`: states handed to the handler that no recorded session reaches, each with a message and a room.
+"""The table of the crate `test_handed_in`: states handed to the handler that no recorded session reaches, each with a message and a room.
 
-    python3 tests/handed_in.py            writes crates/handed_in/stdin and stdout
+    python3 tests/handed_in.py            writes crates/test_handed_in/stdin and stdout
     python3 tests/handed_in.py --check    only says whether they are up to date
 
 What must be printed comes from the independent model (model.py, soundness.py), which also has to agree with series_vectors.py on what is
@@ -322,5 +322,5 @@ def table():
 
 
 if __name__ == "__main__":
-    keep("handed_in", table())
+    keep("test_handed_in", table())
     print("handed_in: %d cases %s" % (len(CASES), "are as written" if is_check() else "written"))

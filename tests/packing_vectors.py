@@ -1,8 +1,8 @@
 #!/usr/bin/env python3
-"""The vectors of crates/packing_vectors: what it reads (stdin) and what it must print (stdout).
+"""The vectors of crates/test_packing: what it reads (stdin) and what it must print (stdout).
 
 Run it again from the repository's root: python3 tests/packing_vectors.py
-It writes crates/packing_vectors/stdin and crates/packing_vectors/stdout.
+It writes crates/test_packing/stdin and crates/test_packing/stdout.
 
 Everything here is written from the text of document 01 ("Numbers" and "Reports") and from nothing else: bits are strings
 of 0 and 1, and what a kind does not name is asked to be zero, field by field.
@@ -224,5 +224,5 @@ for value in (0, 1, 2, 4, 5, 6, 9, 10, 11, 31, 32, 63, 64, 99, 100, 101, 127, 12
     widths(value)
 
 for name, column in (("stdin", 0), ("stdout", 1)):
-    with open("crates/packing_vectors/" + name, "w") as out:
+    with open("crates/test_packing/" + name, "w") as out:
         out.write("".join(line[column] + "\n" for line in lines))

@@ -1,12 +1,12 @@
 #!/usr/bin/env python3
 """The table of questions about prices, and the answers that document 01 gives.
 
-    python3 tests/price_vectors.py            writes crates/prices_vectors/stdin and crates/prices_vectors/stdout
+    python3 tests/price_vectors.py            writes crates/test_prices/stdin and crates/test_prices/stdout
     python3 tests/price_vectors.py --check    says whether the two files are what it would write
     python3 tests/price_vectors.py --list     prints each question and its answer, as text
 
 Run it from anywhere. It needs nothing but Python 3, and it runs no program of this repository: the answers are worked out in price_rules.py, from the words of
-document 01, once for a buy and once for a sell. The gate runs the crate prices_vectors on the one file and compares what it prints with the other.
+document 01, once for a buy and once for a sell. The gate runs the crate test_prices on the one file and compares what it prints with the other.
 
 A question is nine numbers of four bytes, most significant first: what is asked, and eight figures, zero where there are fewer.
 Its answer is one line. `-` stands for a question outside what the rule asked is for.
@@ -306,7 +306,7 @@ def main():
     table()
     stdin = b"".join(struct.pack(">9I", number, *figures, *([0] * (8 - len(figures)))) for _, number, figures, _ in TABLE)
     stdout = "".join(line + "\n" for *_, line in TABLE).encode()
-    where = os.path.join(os.path.dirname(os.path.abspath(__file__)), "..", "crates", "prices_vectors")
+    where = os.path.join(os.path.dirname(os.path.abspath(__file__)), "..", "crates", "test_prices")
     words = sys.argv[1:]
     if words == ["--list"]:
         for what, _, figures, line in TABLE:
@@ -314,7 +314,7 @@ def main():
     elif words == ["--check"]:
         for name, made in (("stdin", stdin), ("stdout", stdout)):
             if open(os.path.join(where, name), "rb").read() != made:
-                sys.exit(f"price_vectors: crates/prices_vectors/{name} is not what this script writes")
+                sys.exit(f"price_vectors: crates/test_prices/{name} is not what this script writes")
         print(f"price_vectors: {len(TABLE)} questions, both files as written")
     elif not words:
         for name, made in (("stdin", stdin), ("stdout", stdout)):

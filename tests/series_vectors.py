@@ -1,8 +1,8 @@
 #!/usr/bin/env python3
-"""The vectors of crates/series_vectors: what it reads (stdin) and what it must print (stdout).
+"""The vectors of crates/test_series: what it reads (stdin) and what it must print (stdout).
 
 Run it again from the repository's root: python3 tests/series_vectors.py
-It writes crates/series_vectors/stdin and crates/series_vectors/stdout.
+It writes crates/test_series/stdin and crates/test_series/stdout.
 
 `is_sound_series` is written from the text of document 01 ("A state is sound if: ..", "Numbers") and from nothing else; what it says
 of the book is `is_sound` of soundness_vectors.py. Each clause beyond the book is broken alone, by one and at its edges, on series
@@ -224,7 +224,7 @@ def every_case():
 
 def main():
     every_case()
-    write_table("series_vectors", [series_picture(s) for s in cases], ["sound" if is_sound_series(s) else "unsound" for s in cases], "series")
+    write_table("test_series", [series_picture(s) for s in cases], ["sound" if is_sound_series(s) else "unsound" for s in cases], "series")
 
 
 if __name__ == "__main__":

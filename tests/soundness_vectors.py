@@ -1,8 +1,8 @@
 #!/usr/bin/env python3
-"""The vectors of crates/checking_vectors: what it reads (stdin) and what it must print (stdout).
+"""The vectors of crates/test_soundness: what it reads (stdin) and what it must print (stdout).
 
 Run it again from the repository's root: python3 tests/soundness_vectors.py
-It writes crates/checking_vectors/stdin and crates/checking_vectors/stdout.
+It writes crates/test_soundness/stdin and crates/test_soundness/stdout.
 
 `is_sound` and `summary` are written from the text of document 01 ("A state is sound if: ..", "Numbers", "Prices an entry has",
 "Arrival") and from nothing else. Each clause is broken alone, by one and at its edges, on books that are sound otherwise;
@@ -374,7 +374,7 @@ def main():
         value = rng.choice((e[field] + 1, max(e[field] - 1, 0), e[field] + b["m"], rng.randrange(0, top)))
         changed(b, place, None, **{field: min(value, 255) if top == 255 else value})
 
-    write_table("checking_vectors", [struct.pack(">II", b["m"], b["given"]) + picture(b) for b in cases], [summary(b) for b in cases], "books")
+    write_table("test_soundness", [struct.pack(">II", b["m"], b["given"]) + picture(b) for b in cases], [summary(b) for b in cases], "books")
 
 
 if __name__ == "__main__":
