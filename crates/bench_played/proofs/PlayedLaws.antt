@@ -12,6 +12,7 @@ use borrow.Author.Tests.{le-leb, lt-leb, leb-true, leb-false}
 use Rattle.lists.proofs.Bools.{and-left, and-right}
 use Rattle.packing.specs.declared.setup.Setup.{Setup}
 use Rattle.packing.specs.Room.{roomSize, mostReports}
+use Rattle.packing.specs.Message.{messageSize}
 use Rattle.series.specs.declared.Series.{Series}
 use Rattle.series.specs.Series.{opened}
 use Rattle.handler.specs.Handle.{handled, handledAt}
@@ -28,11 +29,11 @@ count-few s message room = go (handled s message room .answer .refusal) refl
     go (suc n) h = omega (arith, refusals-keep s message room (λ z. omega (arith, h, z)) .count)
 
 -- the test of the loop
-pub goes-not : (long at size used : ℕ) → long < at + 11 → goesOn long at size used ≡ false
-goes-not long at size used h = ap (λ (b : Bool). b && leb (used + roomSize) size) (lt-leb (at + 11) long h)
+pub goes-not : (long at size used : ℕ) → long < at + messageSize → goesOn long at size used ≡ false
+goes-not long at size used h = ap (λ (b : Bool). b && leb (used + roomSize) size) (lt-leb (at + messageSize) long h)
 
-pub goes-if : (long at size used : ℕ) → at + 11 ≤ long → goesOn long at size used ≡ leb (used + roomSize) size
-goes-if long at size used h = ap (λ (b : Bool). b && leb (used + roomSize) size) (le-leb (at + 11) long h)
+pub goes-if : (long at size used : ℕ) → at + messageSize ≤ long → goesOn long at size used ≡ leb (used + roomSize) size
+goes-if long at size used h = ap (λ (b : Bool). b && leb (used + roomSize) size) (le-leb (at + messageSize) long h)
 
 pub room-left : (size used : ℕ) → used ≤ size → leb roomSize (size - used) ≡ leb (used + roomSize) size
 room-left size used h = by (leb (used + roomSize) size) refl
@@ -41,10 +42,10 @@ room-left size used h = by (leb (used + roomSize) size) refl
     by true e = le-leb roomSize (size - used) (omega (arith, leb-true (used + roomSize) size e))
     by false e = lt-leb roomSize (size - used) (omega (arith, leb-false (used + roomSize) size e))
 
-pub goes-both : (long at size used : ℕ) → goesOn long at size used ≡ true → (at + 11 ≤ long) × (used + roomSize ≤ size)
+pub goes-both : (long at size used : ℕ) → goesOn long at size used ≡ true → (at + messageSize ≤ long) × (used + roomSize ≤ size)
 goes-both long at size used h = (
-  leb-true (at + 11) long (and-left (leb (at + 11) long) (leb (used + roomSize) size) h),
-  leb-true (used + roomSize) size (and-right (leb (at + 11) long) (leb (used + roomSize) size) h),
+  leb-true (at + messageSize) long (and-left (leb (at + messageSize) long) (leb (used + roomSize) size) h),
+  leb-true (used + roomSize) size (and-right (leb (at + messageSize) long) (leb (used + roomSize) size) h),
 )
 
 -- WHAT IS LEFT TO PLAY from here is what was to play from the start
@@ -71,14 +72,14 @@ module _ {start s : Series} {run out₀ out : List ℕ} {at used : ℕ} (p : Pla
       by (suc n) = rw h refl
 
   pub goes : {s′ : Series} {out′ : List ℕ} {used′ : ℕ} → goesOn (length run) at (length out) used ≡ true → Turned s run at out used s′ used′ out′
-      → length out′ ≡ length out → Playing start run out₀ s′ (at + 11) out′ used′
+      → length out′ ≡ length out → Playing start run out₀ s′ (at + messageSize) out′ used′
   unfolding playedOn
   goes {s′} {out′} {used′} h t k = by (p .left) (p .same) (p .enough)
     where
-      b : (at + 11 ≤ length run) × (used + roomSize ≤ length out)
+      b : (at + messageSize ≤ length run) × (used + roomSize ≤ length out)
       b = goes-both (length run) at (length out) used h
 
-      by : (n : ℕ) → playedOn n s run at out used ≡ played start run out₀ → length run ≤ at + n → Playing start run out₀ s′ (at + 11) out′ used′
+      by : (n : ℕ) → playedOn n s run at out used ≡ played start run out₀ → length run ≤ at + n → Playing start run out₀ s′ (at + messageSize) out′ used′
       by zero e m = absurd (omega (arith, b .0))
       by (suc n) e m = record {
         left = n;

@@ -10,17 +10,19 @@ use Rattle.packing.specs.declared.setup.Setup.{Setup}
 use Rattle.packing.specs.Codec.{unpackOf}
 use Rattle.packing.specs.Setup.{setups}
 use Rattle.packing.specs.Room.{roomSize}
+use Rattle.packing.specs.Report.{reportSize}
+use Rattle.packing.specs.Message.{messageSize}
 use Rattle.series.specs.declared.Series.{Series}
 use Rattle.series.specs.Series.{newSeries}
 use Rattle.handler.specs.Handle.{Handled, handledAt}
 
 -- a whole message stands at `at`, and behind `used` there is room for the reports of any message
 abbrev pub goesOn : ℕ → ℕ → ℕ → ℕ → Bool
-goesOn long at size used = leb (at + 11) long && leb (used + roomSize) size
+goesOn long at size used = leb (at + messageSize) long && leb (used + roomSize) size
 
 -- where a message's reports end, that begin at `used`
 abbrev pub endOf : ℕ → Handled → ℕ
-endOf used h = used + 14 * h .answer .count
+endOf used h = used + reportSize * h .answer .count
 
 -- the room after a message: what stood before `used`, the reports, and every other byte as it was
 abbrev pub marked : List ℕ → ℕ → Handled → List ℕ
@@ -37,7 +39,7 @@ unfoldable pub playedOn : ℕ → Series → List ℕ → ℕ → List ℕ → �
 playedOn zero s run at out used = (used, out)
 playedOn (suc n) s run at out used =
     cond (goesOn (length run) at (length out) used)
-    (playedOn n (handledAt s run at (drop used out) .answer .series) run (at + 11) (marked out used (handledAt s run at (drop used out)))
+    (playedOn n (handledAt s run at (drop used out) .answer .series) run (at + messageSize) (marked out used (handledAt s run at (drop used out)))
     (endOf used (handledAt s run at (drop used out))))
     (used, out)
 

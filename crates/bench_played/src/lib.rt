@@ -1,5 +1,7 @@
 // A run of messages played one after the other, each into what is left of one lent room: what the measurements call.
 use handler::handle::handle_at;
+use packing::message::SIZE as MESSAGE;
+use packing::report::SIZE as REPORT;
 use packing::room::ROOM;
 use series::Series;
 use series::open::open_series;
@@ -8,13 +10,14 @@ ghost use lib.ListN.{length};
 ghost use Prim.Native.Nat.{_+_, _*_, _≤_};
 ghost use Rattle.bench_played.specs.Played.{goesOn, Turned, played, playedFrom};
 ghost use Rattle.packing.specs.Room.{roomSize, mostReports};
+ghost use Rattle.packing.specs.Report.{reportSize};
 
 // Whether a whole message stands at `at`, and there is room behind `used` for its reports.
 fn is_next(long: usize, at: usize, size: usize, used: usize) -> bool
     requires { ⌜ (at ≤ long) × (used ≤ size) ⌝ }
     ensures { λ r. ⌜ r ≡ goesOn long at size used ⌝ }
 {
-    if long - at < 11 {
+    if long - at < MESSAGE {
         return false;
     }
     ROOM <= size - used
@@ -29,9 +32,9 @@ struct Next {
 // Where reports end that begin at `used`.
 fn end_of(used: usize, count: usize, size: usize) -> usize
     requires { ⌜ (count ≤ mostReports) × (used + roomSize ≤ size) ⌝ }
-    ensures { λ r. ⌜ r ≡ used + 14 * count ⌝ }
+    ensures { λ r. ⌜ r ≡ used + reportSize * count ⌝ }
 {
-    used + 14 * count
+    used + REPORT * count
 }
 
 // One message: its reports from `used` on.
@@ -61,7 +64,7 @@ fn play(start: Series, run: &[u8], out: &mut [u8]) -> usize
         let after = next.series;
         series = after;
         used = next.used;
-        at += 11;
+        at += MESSAGE;
     }
     used
 }

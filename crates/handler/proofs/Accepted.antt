@@ -44,7 +44,7 @@ use Rattle.series.proofs.TermsLaws.{phase-open}
 use Rattle.series.proofs.SeriesFacts.{terms-market, facts-series}
 use Rattle.handler.specs.declared.Ask.{Ask}
 use Rattle.handler.specs.Asked.{askOf}
-use Rattle.kinds.specs.Kinds.{enters}
+use Rattle.kinds.specs.Kinds.{enters, cancelsEntry, cancelsQuote, setsPhase}
 use Rattle.handler.specs.Accept.{comer, ownPart, termsAfter, blockedAfter, settledIf, done, seriesAfter}
 use Rattle.handler.proofs.Passed.{Accepted, accepts, facts, enters-open, accepted-arriving, terms-legal, numbers-few}
 use Rattle.handler.proofs.Ways.{Accepting, accepting, handled-accepted}
@@ -120,7 +120,7 @@ module _ (s : Series) (a : Ask) (ok : Accepted s a) where
   pub own-part : Part (termsAfter (s .terms) a .m) (termsAfter (s .terms) a .given) (termsAfter (s .terms) a .phase) 72
       (ownPart (s .terms) a (entriesOf (s .book)))
   unfolding ownPart termsAfter
-  own-part = go (enters (a .kind)) refl (eqb (a .kind) 7) refl (eqb (a .kind) 8) refl (eqb (a .kind) 11) refl
+  own-part = go (enters (a .kind)) refl (cancelsEntry (a .kind)) refl (cancelsQuote (a .kind)) refl (setsPhase (a .kind)) refl
     where
       t : Terms
       t = s .terms
@@ -131,7 +131,7 @@ module _ (s : Series) (a : Ask) (ok : Accepted s a) where
       e : Entry
       e = comer (s .terms .given) a
 
-      go : (b : Bool) → enters (a .kind) ≡ b → (b₇ : Bool) → eqb (a .kind) 7 ≡ b₇ → (b₈ : Bool) → eqb (a .kind) 8 ≡ b₈ → (b₁₁ : Bool) → eqb (a .kind) 11 ≡ b₁₁
+      go : (b : Bool) → enters (a .kind) ≡ b → (b₇ : Bool) → cancelsEntry (a .kind) ≡ b₇ → (b₈ : Bool) → cancelsQuote (a .kind) ≡ b₈ → (b₁₁ : Bool) → setsPhase (a .kind) ≡ b₁₁
           → Part (t .m) (cond b (t .given + 1) (t .given)) (cond b₁₁ (a .quantity) (t .phase)) 72
           (cond b (arrived t e l)
           (cond b₇ (cancelEntry (a .party) (a .entry) l)

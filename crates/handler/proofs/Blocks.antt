@@ -23,7 +23,7 @@ use Rattle.series.specs.declared.Series.{Series}
 use Rattle.series.specs.Series.{soundSeries}
 use Rattle.handler.specs.declared.Ask.{Ask}
 use Rattle.handler.specs.Asked.{askOf}
-use Rattle.kinds.specs.Kinds.{quotes, makers, enters}
+use Rattle.kinds.specs.Kinds.{quotes, makers, enters, enables}
 use Rattle.kinds.proofs.KindLaws.{no-such, stays-out, quotes-enter, quotes-makers}
 use Rattle.handler.specs.Refuse.{badParty, badPrice, badQuantity, notOpen, refusalOf}
 use Rattle.handler.specs.Accept.{comer, blockedAfter, seriesAfter}
@@ -63,7 +63,7 @@ module _ (s : Series) (a : Ask) (ok : Accepted s a) (flags : length (s .blocked)
   quote-flag : quotes (a .kind) ≡ true → makers (a .kind) ≡ true
   quote-flag q = quotes-makers (a .kind) q
 
-  not-enable : quotes (a .kind) ≡ true → eqb (a .kind) 12 ≡ false
+  not-enable : quotes (a .kind) ≡ true → enables (a .kind) ≡ false
   not-enable q = no-such enters 12 (a .kind) (stays-out 12 refl) (quotes-enter (a .kind) q)
 
   -- the three ways
@@ -88,9 +88,9 @@ module _ (s : Series) (a : Ask) (ok : Accepted s a) (flags : length (s .blocked)
   -- which of them it is: what holds in each holds afterwards
   by-ways : (C : List Bool → Type 0) → (a .kind ≡ 12 → C (set (s .blocked) (a .party - 1) false))
       → (quotes (a .kind) ≡ true → C (set (s .blocked) (a .party - 1) true)) → C (s .blocked) → C (seriesAfter s a .blocked)
-  by-ways C one two three = go (eqb (a .kind) 12) refl (quotes (a .kind)) refl (leb 25 (rejectionOf s a)) refl
+  by-ways C one two three = go (enables (a .kind)) refl (quotes (a .kind)) refl (leb 25 (rejectionOf s a)) refl
     where
-      go : (b : Bool) → eqb (a .kind) 12 ≡ b → (c : Bool) → quotes (a .kind) ≡ c → (d : Bool) → leb 25 (rejectionOf s a) ≡ d → C (seriesAfter s a .blocked)
+      go : (b : Bool) → enables (a .kind) ≡ b → (c : Bool) → quotes (a .kind) ≡ c → (d : Bool) → leb 25 (rejectionOf s a) ≡ d → C (seriesAfter s a .blocked)
       go true p c q d r = subst C (sym (enabled-is (eqb-true (a .kind) 12 p))) (one (eqb-true (a .kind) 12 p))
       go false p true q true r = subst C (sym (blocked-is q (leb-true 25 (rejectionOf s a) r))) (two q)
       go false p true q false r =

@@ -11,7 +11,7 @@ use borrow.Author.Tests.{eq-eqb, ne-eqb, leb-true}
 use Rattle.prices.specs.declared.Prices.{Prices}
 use Rattle.prices.specs.declared.Market.{Market}
 use Rattle.prices.specs.Side.{reaches}
-use Rattle.kinds.specs.Kinds.{minds, enters}
+use Rattle.kinds.specs.Kinds.{minds, enters, cancelsEntry, cancelsQuote, setsPhase}
 use Rattle.kinds.proofs.KindLaws.{no-such, stays-out}
 use Rattle.prices.proofs.FrameLaws.{seen, reached}
 use Rattle.lists.specs.Places.{At}
@@ -73,10 +73,10 @@ module _ (s : Series) (a : Ask) where
   own-all P lessens posts h =
       cond-either Rested (enters (a .kind)) (arrived t (comer (t .given) a) l) _
       (λ q. arrived-all t (comer (t .given) a) l P (λ n x k p. lessens n x p) (posts q) h)
-      (λ _. cond-either Rested (eqb (a .kind) 7) (cancelEntry (a .party) (a .entry) l) _ (λ _. cut-all 28 l P (entryOf (a .party) (a .entry) l) h)
-      (λ _. cond-either Rested (eqb (a .kind) 8) (cancelQuote (a .party) (a .sell) l) _ (λ _. quote-all 28 (a .party) (a .sell) l P h)
+      (λ _. cond-either Rested (cancelsEntry (a .kind)) (cancelEntry (a .party) (a .entry) l) _ (λ _. cut-all 28 l P (entryOf (a .party) (a .entry) l) h)
+      (λ _. cond-either Rested (cancelsQuote (a .kind)) (cancelQuote (a .party) (a .sell) l) _ (λ _. quote-all 28 (a .party) (a .sell) l P h)
       (λ _.
-      cond-either Rested (eqb (a .kind) 11) (andThen (reported Noted l) (sweep (a .quantity))) (reported Noted l) (λ _. sweep-all (a .quantity) l P h)
+      cond-either Rested (setsPhase (a .kind)) (andThen (reported Noted l) (sweep (a .quantity))) (reported Noted l) (λ _. sweep-all (a .quantity) l P h)
       (λ _. h))))
     where
       Rested : Ran (List Entry) Report → Type 0
@@ -88,9 +88,9 @@ module _ (s : Series) (a : Ask) where
   unfolding ownPart
   own-says P arrives noted gone =
       cond-either Says (enters (a .kind)) (arrived t (comer (t .given) a) l) _ arrives
-      (λ _. cond-either Says (eqb (a .kind) 7) (cancelEntry (a .party) (a .entry) l) _ (λ _. cut-says l P gone 28 (entryOf (a .party) (a .entry) l))
-      (λ _. cond-either Says (eqb (a .kind) 8) (cancelQuote (a .party) (a .sell) l) _ (λ _. cut-says l P gone 28 (quoteIn (a .party) (a .sell) l))
-      (λ _. cond-either Says (eqb (a .kind) 11) (andThen (reported Noted l) (sweep (a .quantity))) (reported Noted l)
+      (λ _. cond-either Says (cancelsEntry (a .kind)) (cancelEntry (a .party) (a .entry) l) _ (λ _. cut-says l P gone 28 (entryOf (a .party) (a .entry) l))
+      (λ _. cond-either Says (cancelsQuote (a .kind)) (cancelQuote (a .party) (a .sell) l) _ (λ _. cut-says l P gone 28 (quoteIn (a .party) (a .sell) l))
+      (λ _. cond-either Says (setsPhase (a .kind)) (andThen (reported Noted l) (sweep (a .quantity))) (reported Noted l)
       (λ _. (noted, sweep-says l P gone (a .quantity))) (λ _. (noted, tt)))))
     where
       Says : Ran (List Entry) Report → Type 0

@@ -36,7 +36,7 @@ use Rattle.series.proofs.TermsLaws.{given-price}
 use Rattle.series.proofs.SeriesFacts.{SeriesFacts, series-facts}
 use Rattle.handler.specs.declared.Ask.{Ask}
 use Rattle.handler.specs.Asked.{askOf}
-use Rattle.kinds.specs.Kinds.{enters, quotes, makers, carries}
+use Rattle.kinds.specs.Kinds.{enters, quotes, makers, carries, setsAway, setsPhase, setsUnderlying}
 use Rattle.kinds.proofs.KindLaws.{enters-carries, quotes-makers, stays-out}
 use Rattle.handler.specs.Refuse.{badParty, badPrice, badQuantity, notOpen, isBlocked, isFull, isSpent, isMissing, refusalOf}
 use Rattle.handler.specs.Accept.{comer, termsAfter}
@@ -184,21 +184,21 @@ module _ (s : Series) (a : Ask) (ok : Accepted s a) where
     step = facts .sound .terms .step;
     steps = facts .sound .terms .steps;
     strike = facts .sound .terms .strike;
-    phase = cond-either (λ (n : ℕ). n ≤ 2) (eqb (a .kind) 11) (a .quantity) (s .terms .phase)
+    phase = cond-either (λ (n : ℕ). n ≤ 2) (setsPhase (a .kind)) (a .quantity) (s .terms .phase)
         (λ q. leb-true (a .quantity) 2 (not-false (leb (a .quantity) 2) (rw (eqb-true (a .kind) 11 q, stays-out 11 refl) at (tests .quantity))))
         (λ q. facts .sound .terms .phase);
-    bid = cond-either (λ (n : ℕ). NoneOrLegal (s .terms .m) n) (eqb (a .kind) 9) (a .price) (s .terms .bid)
+    bid = cond-either (λ (n : ℕ). NoneOrLegal (s .terms .m) n) (setsAway (a .kind)) (a .price) (s .terms .bid)
         (λ q. given-price (s .terms .m) (a .price) (and-left (noneOrLegal (s .terms .m) (a .price)) (noneOrLegal (s .terms .m) (a .second)) (aways q)))
         (λ q. facts .sound .terms .bid);
-    offer = cond-either (λ (n : ℕ). NoneOrLegal (s .terms .m) n) (eqb (a .kind) 9) (a .second) (s .terms .offer)
+    offer = cond-either (λ (n : ℕ). NoneOrLegal (s .terms .m) n) (setsAway (a .kind)) (a .second) (s .terms .offer)
         (λ q. given-price (s .terms .m) (a .second) (and-right (noneOrLegal (s .terms .m) (a .price)) (noneOrLegal (s .terms .m) (a .second)) (aways q)))
         (λ q. facts .sound .terms .offer);
-    underlying = cond-either (λ (n : ℕ). n ≤ topUnderlying) (eqb (a .kind) 10) (a .price) (s .terms .underlying)
+    underlying = cond-either (λ (n : ℕ). n ≤ topUnderlying) (setsUnderlying (a .kind)) (a .price) (s .terms .underlying)
         (λ q. leb-true (a .price) topUnderlying (not-false (leb (a .price) topUnderlying) (rw (eqb-true (a .kind) 10 q, stays-out 10 refl) at (tests .price))))
         (λ q. facts .sound .terms .underlying);
   }
     where
-      aways : eqb (a .kind) 9 ≡ true → (noneOrLegal (s .terms .m) (a .price) && noneOrLegal (s .terms .m) (a .second)) ≡ true
+      aways : setsAway (a .kind) ≡ true → (noneOrLegal (s .terms .m) (a .price) && noneOrLegal (s .terms .m) (a .second)) ≡ true
       aways q =
           not-false (noneOrLegal (s .terms .m) (a .price) && noneOrLegal (s .terms .m) (a .second))
           (rw (eqb-true (a .kind) 9 q, stays-out 9 refl) at (tests .price))

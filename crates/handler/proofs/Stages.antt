@@ -24,7 +24,7 @@ use Rattle.arrival.specs.Arrive.{reported, arrived}
 use Rattle.telling.proofs.StageLaws.{staged-list, staged-then, staged-room}
 use Rattle.series.specs.declared.Series.{Series}
 use Rattle.handler.specs.declared.Ask.{Ask}
-use Rattle.kinds.specs.Kinds.{enters}
+use Rattle.kinds.specs.Kinds.{enters, cancelsEntry, cancelsQuote, setsPhase}
 use Rattle.kinds.proofs.KindLaws.{stays-out}
 use Rattle.handler.specs.Accept.{comer, ownPart, termsAfter, blockedAfter, settledIf, done}
 use Rattle.handler.specs.Handle.{Handled, accepted}
@@ -50,7 +50,7 @@ module _ (t : Terms) (a : Ask) (l : List Entry) where
   unfolding ownPart
   own-phase q = rw (q, stays-out 11 refl)
 
-  pub own-noted : enters (a .kind) ≡ false → eqb (a .kind) 7 ≡ false → eqb (a .kind) 8 ≡ false → eqb (a .kind) 11 ≡ false → ownPart t a l ≡ reported Noted l
+  pub own-noted : enters (a .kind) ≡ false → cancelsEntry (a .kind) ≡ false → cancelsQuote (a .kind) ≡ false → setsPhase (a .kind) ≡ false → ownPart t a l ≡ reported Noted l
   unfolding ownPart
   own-noted q q₇ q₈ q₁₁ = rw (q, q₇, q₈, q₁₁)
 

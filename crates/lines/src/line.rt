@@ -4,13 +4,14 @@ ghost use Prim.Native.Nat.{_+_, _*_, _≤_};
 ghost use mathlib.Core.Path.{_≡_};
 ghost use lib.ListN.{length, take, drop};
 ghost use Rattle.packing.specs.Codec.{unpackOf};
-ghost use Rattle.packing.specs.Report.{reports};
+ghost use Rattle.packing.specs.Report.{reports, reportSize};
 ghost use Rattle.packing.specs.Room.{readBack};
 ghost use Rattle.lines.specs.Lines.{spaced, reportLine, refusalLine, lineOf, reportLines};
 ghost use Rattle.lines.specs.Buffer.{TextPut, roomy, answerPrinted};
 use crate::text::put_field;
 use crate::text::put_number;
 use packing::report::Report;
+use packing::report::SIZE;
 use packing::report::Unpacked;
 use packing::report::fields_of;
 use packing::report::unpack;
@@ -44,14 +45,14 @@ fn put_report(out: &mut [u8], at: usize, number: u64, report: Report) -> usize
 
 // The report at a place of the room; no line where none stands there.
 fn put_place(out: &mut [u8], at: usize, number: u64, room: &[u8], k: usize) -> usize
-    requires { ⌜ at + length (lineOf number (unpackOf reports (take 14 (drop (14 * k) (now room))))) ≤ length (now out) ⌝ }
-    ensures { λ r. ⌜ TextPut (now (out .entry)) at (lineOf number (unpackOf reports (take 14 (drop (14 * k) (now (room .entry)))))) (now (out .exit)) r ⌝ }
+    requires { ⌜ at + length (lineOf number (unpackOf reports (take reportSize (drop (reportSize * k) (now room))))) ≤ length (now out) ⌝ }
+    ensures { λ r. ⌜ TextPut (now (out .entry)) at (lineOf number (unpackOf reports (take reportSize (drop (reportSize * k) (now (room .entry)))))) (now (out .exit)) r ⌝ }
 {
-    if room.len() / 14 <= k {
+    if room.len() / SIZE <= k {
         return at;
     }
-    let from = 14 * k;
-    let to = from + 14;
+    let from = SIZE * k;
+    let to = from + SIZE;
     let Unpacked::Told(report) = unpack(&room[from..to]) else {
         return at;
     };

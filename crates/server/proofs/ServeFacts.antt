@@ -27,7 +27,7 @@ use Rattle.series.proofs.SetupSound.{setup-sound}
 use Rattle.handler.specs.declared.Ask.{Ask}
 use Rattle.arrival.specs.Arrive.{blocks}
 use Rattle.handler.specs.Asked.{askOf}
-use Rattle.kinds.specs.Kinds.{quotes}
+use Rattle.kinds.specs.Kinds.{quotes, enables}
 use Rattle.handler.specs.Accept.{comer, blockedAfter, seriesAfter}
 use Rattle.handler.specs.Handle.{Handled, handled, handledAs}
 use Rattle.handler.proofs.Ways.{accepting, handled-accepted}
@@ -35,7 +35,7 @@ use Rattle.handler.proofs.Passed.{accepts}
 use Rattle.handler.proofs.Accepted.{done-part, after-sound}
 use Rattle.handler.proofs.Refusals.{refusals-keep}
 use Rattle.series_buffer.specs.Header.{headers}
-use Rattle.series_buffer.specs.State.{headerOf, unpackSeries, packsSeries, seriesBytes, packSeries}
+use Rattle.series_buffer.specs.State.{headerOf, unpackSeries, packsSeries, seriesBytes, packSeries, stateSize}
 use Rattle.series_buffer.proofs.RoundTrip.{series-pack, pack-series}
 use Rattle.series_buffer.proofs.SoundPacks.{sound-state}
 use Rattle.server.specs.Serve.{SetUp, setUp, Served, unserved, holding, serveIn, serveAs, serve}
@@ -94,7 +94,7 @@ packs-makers s h =
 
 makers-after : (s : Series) (a : Ask) → length (seriesAfter s a .blocked) ≡ length (s .blocked)
 unfolding blockedAfter
-makers-after s a = by (eqb (a .kind) 12) (quotes (a .kind) && blocks (s .terms) (comer (s .terms .given) a) (entriesOf (s .book)))
+makers-after s a = by (enables (a .kind)) (quotes (a .kind) && blocks (s .terms) (comer (s .terms .given) a) (entriesOf (s .book)))
   where
     by : (b c : Bool)
         → length (cond b (set (s .blocked) (a .party - 1) false) (cond c (set (s .blocked) (a .party - 1) true) (s .blocked))) ≡ length (s .blocked)
@@ -160,9 +160,9 @@ put state s c = cond c (record { refusal = 0; state = seriesBytes (newSeries s) 
 -- A SETUP THAT IS ACCEPTED LEAVES THE NEW SERIES IN THE BUFFER, and that series is sound
 pub setup-holds : (bytes state : List ℕ) → setUp state (unpackOf setups bytes) .refusal ≡ 0 → SetIn bytes (setUp state (unpackOf setups bytes))
 unfolding bookOf
-setup-holds bytes state h = by (unpackOf setups bytes) refl (eqb (length state) 1564) refl h
+setup-holds bytes state h = by (unpackOf setups bytes) refl (eqb (length state) stateSize) refl h
   where
-    by : (u : Option Setup) → unpackOf setups bytes ≡ u → (b : Bool) → eqb (length state) 1564 ≡ b → setUp state u .refusal ≡ 0 → SetIn bytes (setUp state u)
+    by : (u : Option Setup) → unpackOf setups bytes ≡ u → (b : Bool) → eqb (length state) stateSize ≡ b → setUp state u .refusal ≡ 0 → SetIn bytes (setUp state u)
     by none q b l z = absurd (omega (arith, z))
     by (some s) q false l z =
         let n : _≡_ {A = ℕ} 11 0 = sym (ap (λ (c : Bool). put state s c .refusal) l) ∙ z in
@@ -180,9 +180,9 @@ setup-holds bytes state h = by (unpackOf setups bytes) refl (eqb (length state) 
 
 -- A REFUSED SETUP LEAVES THE BUFFER AS IT STOOD
 pub setup-keeps : (bytes state : List ℕ) → (setUp state (unpackOf setups bytes) .refusal ≡ 0 → ⊥) → setUp state (unpackOf setups bytes) .state ≡ state
-setup-keeps bytes state h = by (unpackOf setups bytes) (eqb (length state) 1564) refl h
+setup-keeps bytes state h = by (unpackOf setups bytes) (eqb (length state) stateSize) refl h
   where
-    by : (u : Option Setup) (b : Bool) → eqb (length state) 1564 ≡ b → (setUp state u .refusal ≡ 0 → ⊥) → setUp state u .state ≡ state
+    by : (u : Option Setup) (b : Bool) → eqb (length state) stateSize ≡ b → (setUp state u .refusal ≡ 0 → ⊥) → setUp state u .state ≡ state
     by none b l k = refl
     by (some s) false l k = ap (λ (c : Bool). put state s c .state) l
     by (some s) true l k =

@@ -25,7 +25,7 @@ use Rattle.handler.specs.declared.Answer.{Answer}
 use Rattle.handler.specs.Handle.{Handled, inRoom, handledAs}
 use Rattle.handler.proofs.Refusals.{Unchanged, refusals-keep-as}
 use Rattle.series_buffer.specs.declared.Unpacked.{Unpacked}
-use Rattle.series_buffer.specs.State.{unpackSeries, packsSeries, seriesBytes, packSeries, unpacked, isStored, bufferAfter}
+use Rattle.series_buffer.specs.State.{unpackSeries, packsSeries, seriesBytes, packSeries, unpacked, isStored, bufferAfter, stateSize}
 use Rattle.series_buffer.proofs.RoundTrip.{series-pack}
 use Rattle.series_buffer.proofs.StateLaws.{other-length}
 use Rattle.series_buffer.proofs.SoundPacks.{sound-packs}
@@ -42,22 +42,22 @@ holds-some none h = absurd (let z : _≡_ {A = ℕ} 0 1 = cc in omega arith)
 holds-some (some s) h = refl
 
 -- a buffer that holds a series has its length
-pub state-long : (state : List ℕ) (s : Series) → unpackSeries state ≡ some s → length state ≡ 1564
-state-long state s h = by (eqb (length state) 1564) refl
+pub state-long : (state : List ℕ) (s : Series) → unpackSeries state ≡ some s → length state ≡ stateSize
+state-long state s h = by (eqb (length state) stateSize) refl
   where
-    by : (b : Bool) → eqb (length state) 1564 ≡ b → length state ≡ 1564
-    by true q = eqb-true (length state) 1564 q
+    by : (b : Bool) → eqb (length state) stateSize ≡ b → length state ≡ stateSize
+    by true q = eqb-true (length state) stateSize q
     by false q =
         absurd
         (let n =
         other-length state
-        (λ e. let f = eq-eqb (length state) 1564 e in let z : true ≡ false = sym f ∙ q in let w : _≡_ {A = ℕ} 0 1 = cc in
+        (λ e. let f = eq-eqb (length state) stateSize e in let z : true ≡ false = sym f ∙ q in let w : _≡_ {A = ℕ} 0 1 = cc in
         omega arith) in let w : _≡_ {A = ℕ} 0 1 = cc in omega arith)
 
 -- what packing into the buffer leaves is what it then holds
-pub stored-holds : (state : List ℕ) (s : Series) → length state ≡ 1564 → bufferAfter state s ≡ holding state (packSeries s)
+pub stored-holds : (state : List ℕ) (s : Series) → length state ≡ stateSize → bufferAfter state s ≡ holding state (packSeries s)
 unfolding packSeries isStored
-stored-holds state s l = ap (λ (b : Bool). cond (b && packsSeries s) (seriesBytes s) state) (eq-eqb (length state) 1564 l) ∙ by (packsSeries s)
+stored-holds state s l = ap (λ (b : Bool). cond (b && packsSeries s) (seriesBytes s) state) (eq-eqb (length state) stateSize l) ∙ by (packsSeries s)
   where
     by : (b : Bool) → cond b (seriesBytes s) state ≡ holding state (onlyIf b (some (seriesBytes s)))
     by true = refl
@@ -130,10 +130,10 @@ module _ (bytes state : List ℕ) (m : Made) (is : m ≡ opened (unpackOf setups
       by-setup (some s) q =
           let new : m .series ≡ newSeries s = ap (λ (x : Made). x .series) is ∙ ap (λ (u : Option Setup). opened u .series) q in
           let fit : packsSeries (newSeries s) ≡ true = new-packs bytes s q in
-          let put′ : stored ≡ (eqb (length state) 1564 && packsSeries (newSeries s)) = put ∙ ap (isStored state) new in
+          let put′ : stored ≡ (eqb (length state) stateSize && packsSeries (newSeries s)) = put ∙ ap (isStored state) new in
           let after′ : out ≡ cond stored (seriesBytes (newSeries s)) state =
           after ∙ ap (bufferAfter state) new ∙ ap (λ (b : Bool). cond b (seriesBytes (newSeries s)) state) (sym put′) in
-          let long : stored ≡ eqb (length state) 1564 = put′ ∙ ap (λ (b : Bool). eqb (length state) 1564 && b) fit ∙ and-true (eqb (length state) 1564) in (
+          let long : stored ≡ eqb (length state) stateSize = put′ ∙ ap (λ (b : Bool). eqb (length state) stateSize && b) fit ∙ and-true (eqb (length state) stateSize) in (
             (λ t. (λ i. record { refusal = 0; state = (after′ ∙ ap (λ (b : Bool). cond b (seriesBytes (newSeries s)) state) t) i })
                 ∙ sym
                 (ap (λ (b : Bool). cond b (record { refusal = 0; state = seriesBytes (newSeries s) }) (record { refusal = 11; state = state }))

@@ -14,7 +14,7 @@ use Rattle.packing.specs.Room.{roomSize}
 use Rattle.series.specs.declared.Series.{Series}
 use Rattle.series.specs.Series.{newSeries}
 use Rattle.handler.specs.Handle.{Handled, handledAs}
-use Rattle.series_buffer.specs.State.{unpackSeries, seriesBytes, packSeries}
+use Rattle.series_buffer.specs.State.{unpackSeries, seriesBytes, packSeries, stateSize}
 
 -- the number answered, and what the lent buffers then hold
 pub record SetUp : Type 0 where
@@ -25,7 +25,7 @@ pub record SetUp : Type 0 where
 -- 1,564 bytes and so cannot hold a series
 abbrev pub setUp : List ℕ → Option Setup → SetUp
 setUp state none = record { refusal = nothing; state = state }
-setUp state (some s) = cond (eqb (length state) 1564) (record { refusal = 0; state = seriesBytes (newSeries s) }) (record { refusal = 11; state = state })
+setUp state (some s) = cond (eqb (length state) stateSize) (record { refusal = 0; state = seriesBytes (newSeries s) }) (record { refusal = 11; state = state })
 
 pub record Served : Type 0 where
   pub refusal : ℕ

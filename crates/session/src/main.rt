@@ -6,15 +6,13 @@ use input::fill;
 use input::keep;
 use libc::STDOUT_FILENO;
 use lines::line::answer_lines;
+use packing::message::SIZE as MESSAGE;
 use packing::room::ROOM;
 use series::Series;
 use series::open::open_series;
 ghost use Prim.Native.Nat.{_≤_};
 ghost use lib.ListN.{length};
 ghost use Rattle.io.specs.Counts.{Counts};
-
-// A message's bytes.
-const MESSAGE: usize = 11;
 
 // The longest answer, 2,280 lines of at most 120 bytes.
 const LONGEST_ANSWER: usize = 273600;

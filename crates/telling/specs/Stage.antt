@@ -9,13 +9,14 @@ use lib.ListN.{length}
 use Rattle.lists.specs.Run.{Step, stop, go, Ran}
 use Rattle.packing.specs.declared.report.Report.{Report}
 use Rattle.packing.specs.Room.{written, AllPack}
+use Rattle.packing.specs.Report.{reportSize}
 use Rattle.book.specs.declared.Entry.{Entry}
 use Rattle.book.specs.declared.Book.{Book}
 use Rattle.book.specs.Shape.{bookOf, WellFormed}
 
 -- there is room for the reports behind the n that stand there, and each of their fields fits
 pub record Roomy (room : List ℕ) (n : ℕ) (rs : List Report) : Type 0 where
-  pub space : 14 * (n + length rs) ≤ length room
+  pub space : reportSize * (n + length rs) ≤ length room
   pub fit : AllPack rs
 
 -- what a stage with the definition x leaves: the book, every byte of the room, and the count

@@ -5,6 +5,7 @@ use handler::handle::handle_at;
 use libc::STDIN_FILENO;
 use libc::STDOUT_FILENO;
 use lines::line::answer_lines;
+use packing::message::SIZE as MESSAGE;
 use packing::room::ROOM;
 use series::Series;
 use series::open::open_series;
@@ -23,10 +24,10 @@ fn next_place(at: usize, end: usize) -> usize
     requires { ⌜ at < end ⌝ }
     ensures { λ r. ⌜ (at < r) × (r ≤ end) ⌝ }
 {
-    if end - at < 11 {
+    if end - at < MESSAGE {
         return end;
     }
-    at + 11
+    at + MESSAGE
 }
 
 fn play_messages(start: Series, run: &[u8], from: usize, room: &mut [u8], out: &mut [u8])
