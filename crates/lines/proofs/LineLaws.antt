@@ -10,7 +10,7 @@ use lib.Seq.{drop-cons, drop-drop}
 use Rattle.packing.specs.declared.report.Report.{Report}
 use Rattle.packing.specs.declared.report.Unpacked.{Unpacked}
 use Rattle.packing.specs.Codec.{unpackOf}
-use Rattle.packing.specs.Report.{reports, fieldsOf, unpacked}
+use Rattle.packing.specs.Report.{reports, fieldsOf, unpacked, reportSize}
 use Rattle.packing.specs.Room.{readBack}
 use Rattle.packing.proofs.CodecLaws.{unpack-short}
 use Rattle.lines.specs.Decimal.{decimal}
@@ -34,31 +34,31 @@ no-field xs i h = ap spaced (drop-of-length-le xs h)
 
 -- what stands at a place of the room, and what is left from there on
 abbrev pub standsAt : List ℕ → ℕ → Option Report
-standsAt room k = unpackOf reports (take 14 (drop (14 * k) room))
+standsAt room k = unpackOf reports (take reportSize (drop (reportSize * k) room))
 
 abbrev pub leftFrom : List ℕ → ℕ → ℕ → List (Option Report)
-leftFrom room count k = readBack (count - k) (drop (14 * k) room)
+leftFrom room count k = readBack (count - k) (drop (reportSize * k) room)
 
 pub no-place : (room : List ℕ) (k : ℕ) → length room / 14 ≤ k → standsAt room k ≡ none
-no-place room k h = unpack-short reports (drop (14 * k) room) (rw length-drop (omega arith))
+no-place room k h = unpack-short reports (drop (reportSize * k) room) (rw length-drop (omega arith))
 
 -- the part of the room that is handed to the unpacker
-pub place-part : (room : List ℕ) (k : ℕ) (u : Unpacked) → u ≡ unpacked (unpackOf reports (take (14 * k + 14 - 14 * k) (drop (14 * k) room)))
+pub place-part : (room : List ℕ) (k : ℕ) (u : Unpacked) → u ≡ unpacked (unpackOf reports (take (reportSize * k + 14 - reportSize * k) (drop (reportSize * k) room)))
     → u ≡ unpacked (standsAt room k)
-place-part room k u h = h ∙ ap (λ (n : ℕ). unpacked (unpackOf reports (take n (drop (14 * k) room)))) long
+place-part room k u h = h ∙ ap (λ (n : ℕ). unpacked (unpackOf reports (take n (drop (reportSize * k) room)))) long
   where
-    long : 14 * k + 14 - 14 * k ≡ 14
+    long : reportSize * k + 14 - reportSize * k ≡ 14
     long = omega arith
 
 pub next-place : (room : List ℕ) (count k : ℕ) → k < count → leftFrom room count k ≡ standsAt room k ∷ leftFrom room count (k + 1)
 next-place room count k h =
-    ap (λ (n : ℕ). readBack n (drop (14 * k) room)) fewer
-    ∙ ap (λ (l : List ℕ). standsAt room k ∷ readBack (count - (k + 1)) l) (drop-drop 14 (14 * k) room ∙ ap (λ (n : ℕ). drop n room) ahead)
+    ap (λ (n : ℕ). readBack n (drop (reportSize * k) room)) fewer
+    ∙ ap (λ (l : List ℕ). standsAt room k ∷ readBack (count - (k + 1)) l) (drop-drop 14 (reportSize * k) room ∙ ap (λ (n : ℕ). drop n room) ahead)
   where
     fewer : count - k ≡ suc (count - (k + 1))
     fewer = omega arith
 
-    ahead : 14 * k + 14 ≡ 14 * (k + 1)
+    ahead : reportSize * k + 14 ≡ 14 * (k + 1)
     ahead = omega arith
 
 pub next-line : (number : ℕ) (room : List ℕ) (count k : ℕ) → k < count
@@ -72,7 +72,7 @@ all-lines number room count = ap (λ (n : ℕ). reportLines number (readBack n r
     all = omega arith
 
 pub no-line : (number : ℕ) (room : List ℕ) (count k : ℕ) → count ≤ k → reportLines number (leftFrom room count k) ≡ []
-no-line number room count k h = ap (λ (n : ℕ). reportLines number (readBack n (drop (14 * k) room))) none-left
+no-line number room count k h = ap (λ (n : ℕ). reportLines number (readBack n (drop (reportSize * k) room))) none-left
   where
     none-left : count - k ≡ 0
     none-left = omega arith

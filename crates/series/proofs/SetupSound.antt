@@ -19,7 +19,7 @@ use Rattle.lists.proofs.Bools.{and-left, and-right}
 use Rattle.packing.specs.declared.setup.Setup.{Setup}
 use Rattle.packing.specs.Codec.{fieldsIn, checked, thingOf, unpackOf}
 use Rattle.packing.proofs.CodecLaws.{onlyIf-some}
-use Rattle.packing.specs.Setup.{codeOf, legalSetup, setups, topStrike}
+use Rattle.packing.specs.Setup.{codeOf, legalSetup, setups, topStrike, setupSize}
 use Rattle.soundness_theory.specs.Sound.{between, soundEntries}
 use Rattle.soundness_theory.proofs.SoundFacts.{between-both}
 use Rattle.series.specs.Series.{newSeries, noSeries, opened, soundTerms, soundSeries}
@@ -31,7 +31,7 @@ use Rattle.series.proofs.SeriesFacts.{facts-series}
 -- "Setup of other length or values is refused": what unpacks has legal values
 pub setup-legal : (bytes : List ℕ) (x : Setup) → unpackOf setups bytes ≡ some x → legalSetup x ≡ true
 unfolding unpackOf thingOf
-setup-legal bytes x h = go (setups .claimed (fieldsIn setups bytes)) (onlyIf-some (eqb (length bytes) 4) (thingOf setups (fieldsIn setups bytes)) x h .1)
+setup-legal bytes x h = go (setups .claimed (fieldsIn setups bytes)) (onlyIf-some (eqb (length bytes) setupSize) (thingOf setups (fieldsIn setups bytes)) x h .1)
   where
     l : List ℕ
     l = fieldsIn setups bytes
