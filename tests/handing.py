@@ -1,6 +1,6 @@
 """A state as it is handed in: the dictionary of series_vectors.py, every field of which may hold anything.
 
-From it the bytes, the model's series and the lines of the program `handed_in`; and from a model's series the state again.
+From it the bytes, the model's series and the lines of the program `test_handed_in`; and from a model's series the state again.
 """
 
 import struct

@@ -80,7 +80,7 @@ not-true : (b : Bool) → not b ≡ true → b ≡ false
 not-true true h = sym h
 not-true false h = refl
 
--- what is dark does not slide, and what passes over the undisplayed neither sliding nor is dark
+-- what is dark does not slide, nor does what passes over the undisplayed
 pub dark-rigid : (n : ℕ) → dark n ≡ true → sliding n ≡ false
 dark-rigid n h = not-true (sliding n) (one-then (λ k. k .dark) (λ k. not (k .sliding)) refl refl n h)
 

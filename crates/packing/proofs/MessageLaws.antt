@@ -40,7 +40,7 @@ unknown-kind k t second entry n1 n2 n3 n4 n5 n6 n7 n8 n9 n10 n11 n12 =
       ne-eqb _ _ n12,
     )
 
--- terms can be told from their fields
+-- what a quote or an order says can be told from its fields
 terms-claimed : (t : Entering) → _≡_ {A = Entering} (record { party = t .party; sell = eqb (bit (t .sell)) 1; price = t .price; quantity = t .quantity }) t
 terms-claimed t i = record { party = t .party; sell = bit-is (t .sell) i; price = t .price; quantity = t .quantity }
 

@@ -1,5 +1,5 @@
 -- The step: which prices are legal, and what one step is. No rule outside this file and no law but its own (proofs/StepLaws) knows how long a step is. What a
--- sound price is stands once more, in plain words, in crate checking (specs/SoundBook).
+-- sound price is stands once more, in plain words, in crate soundness (specs/SoundBook).
 -- Assumes nothing.
 use Prim.Native.Nat.{ℕ, _+_, _-_, _*_, _%_}
 use mathlib.Core.Bool.{Bool, true, false, _&&_, _||_}

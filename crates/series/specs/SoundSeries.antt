@@ -1,5 +1,5 @@
 -- A SOUND SERIES: document 01's "A state is sound if: ..", in its words and in its order, as plain facts. `soundSeries` is a test of just these
--- (proofs/Decides). What a clause asks of an entry, and of two, is in crate checking (specs/SoundBook); ranks are places, and so are distinct.
+-- (proofs/SoundSeriesDecides). What a clause asks of an entry, and of two, is in crate soundness (specs/SoundBook); ranks are places, and so are distinct.
 -- Assumes nothing.
 use Prim.Native.Nat.{ℕ, _≤_}
 use mathlib.Core.Path.{_≡_}

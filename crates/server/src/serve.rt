@@ -1,4 +1,4 @@
-// The whole handler for a caller who keeps the series in a buffer of 1,564 bytes (crate state has its layout) and lends a report room.
+// The whole handler for a caller who keeps the series in a buffer of 1,564 bytes (crate series_buffer has its layout) and lends a report room.
 use handler::handle::handle_read;
 use packing::message::Unpacked;
 use packing::message::unpack;

@@ -58,7 +58,7 @@ rests-eased {m} {l} {a} {c} {d} {w} kind s v ga gc sl h = record {
     same-working = eqb-true w (restingPrices s d p .working) (and-right (eqb d (restingPrices s d p .display)) (eqb w (restingPrices s d p .working)) rest)
 
 module _ {k : Market} {top : ℕ} {l : List Entry} (mk : MarketFacts k) (so : Sound (k .m) top l) where
-  -- WHO EASES IS RESTLESS
+  -- WHO IS TO BE EASED STIRS
   pub unstirred-uneased : (i : ℕ) (e : Entry) → At l i e → stirring k l e ≡ false → easing k e ≡ false
   unstirred-uneased i e at h = by (e .pricing) (here-facts so i e at .prices) h
     where

@@ -34,7 +34,7 @@ one-number {l = l} so i j x y a b q = go (eqb i j) refl
     go true e = at-same l j x y (subst (λ (n : ℕ). At l n x) (eqb-true i j e) a) b
     go false e = absurd (each-two so i j x y a b (eqb-false i j e) .other q)
 
--- an entry of that number minds the contra price: it is an MMALO
+-- an entry of that number minds the contra price, as an MMALO does
 abbrev pub Minding : ℕ → Entry → Type 0
 Minding n e = e .number ≡ n → minds (e .kind) ≡ true
 

@@ -1,5 +1,5 @@
--- A SOUND BOOK, in the words of document 01 ("A state is sound if: .."), as plain facts. `soundBook` of crate sound is a test of just these
--- (proofs/Decides). What the list says of the series, its setup, phase and prices, is in crate series (specs/SoundSeries).
+-- A SOUND BOOK, in the words of document 01 ("A state is sound if: .."), as plain facts. `soundBook` of crate soundness_theory is a test of just
+-- these (proofs/SoundBookDecides). What the list says of the series, its setup, phase and prices, is in crate series (specs/SoundSeries).
 -- Assumes nothing.
 use Prim.Native.Nat.{ℕ, _+_, _≤_, _<_, _%_}
 use mathlib.Core.Path.{_≡_}

@@ -1,8 +1,8 @@
 // Hands the handler states that no recorded session reaches: sound and not settled, or unsound, with too little room or with the entry
 // numbers used up. Prints for each the answer, whether the lent room is as it was behind the reports, and the series afterwards.
 //
-// tests/handed_in.py writes the cases, and what must be printed. A case is 1,614 bytes: the series (crate series_bytes), the lengths of the
-// room and of the message in 4 bytes each, and 16 bytes that hold the message from the front.
+// tests/handed_in.py writes the cases, and what must be printed. A case is 1,614 bytes: the series (crate test_series_bytes), the lengths of
+// the room and of the message in 4 bytes each, and 16 bytes that hold the message from the front.
 mod room;
 mod tell;
 

@@ -1,5 +1,5 @@
 // A series in 1,590 bytes, for the test programs: M, K, strike, phase, away bid, away offer, underlying price and the last number given in 4
-// bytes each, a byte each for put and exempt (1 is yes), 16 bytes for the makers (1 is blocked), and then the book (crate book_bytes).
+// bytes each, a byte each for put and exempt (1 is yes), 16 bytes for the makers (1 is blocked), and then the book (crate test_book_bytes).
 // Nothing is judged: every picture is read, however damaged its series.
 use series::Series;
 use terms::Terms;
