@@ -197,7 +197,7 @@ module _ (t : Terms) (e : Entry) (l : List Entry) (a : Arriving t e l) where
       (λ q. took-all (marketOf t) e r (OtherThan (e .party) (e .sell)) (λ n y h k. k) (gone q))
       (x .final .left) (stopFor t e (x .final .book)) (took-left (marketOf t) e r) (omega (arith, stop-among t e (x .final .book) .most))
       (λ some h. fits t e (x .final .book) (x .final .left) (t .given) (facts .0) hold limit
-      (λ mi. took-clears (marketOf t) e r so (bound-high (marketOf t) e limit (facts .0 .given (e .sell))) mi some) h))
+      (λ mi. took-clears (marketOf t) e r so (bound-high (marketOf t) e limit (facts .0 .legal (e .sell))) mi some) h))
 
   entered-stage : Stage (t .m) (t .given + 1) 64 (length l + 3) (entered t e l)
   unfolding entered

@@ -14,7 +14,7 @@ use Rattle.prices.specs.Step.{mpv, noneOrLegal, topPrice}
 use Rattle.kinds.specs.Kinds.{sliding, minds}
 use Rattle.prices.specs.Aims.{aims, Bounds}
 use Rattle.prices.specs.Protect.{Cents}
-use Rattle.prices.proofs.StepLaws.{NoneOrLegal, given-is, given-none, given-legal, is-legal}
+use Rattle.prices.proofs.StepLaws.{LegalIfAny, if-any-is, if-any-none, given-legal, is-legal}
 use Rattle.lists.specs.Run.{Ran, still, leading, ran, andThen}
 use Rattle.lists.proofs.RunLaws.{run-stop, run-go}
 use Rattle.lists.proofs.Bools.{and-left}
@@ -31,7 +31,7 @@ use Rattle.book.specs.Change.{post}
 use Rattle.book.proofs.ShapeLaws.{book-of-entries, fits-64}
 use Rattle.book.proofs.ChangeLaws.{post-fits}
 use Rattle.soundness_theory.proofs.Facts.{EntryFacts, PricedAs, Sound}
-use Rattle.soundness_theory.proofs.FrontLaws.{given-nearest, given-contra}
+use Rattle.soundness_theory.proofs.FrontLaws.{if-any-nearest, if-any-contra}
 use Rattle.telling.specs.Tell.{rejected, traded, rested, cancelled}
 use Rattle.soundness_theory.specs.SoundMarket.{soundMarket}
 use Rattle.telling.specs.Stage.{Roomy, Staged, Put}
@@ -61,8 +61,8 @@ enters-bounds : {t : Terms} {e : Entry} {f : Facing} {b : Book} → Enters t e f
 unfolding soundMarket
 enters-bounds {t} {e} {f} {b} n = record {
   step = and-left (mpv (t .m)) (noneOrLegal (t .m) (t .bid) && noneOrLegal (t .m) (t .offer)) (n .arriving .market);
-  away = given-is (market-facts (marketOf t) (n .arriving .market) .given (e .sell));
-  contra = rw (n .faces .contra) (given-is (given-contra (e .sell) (facts-of (n .arriving) .1)));
+  away = if-any-is (market-facts (marketOf t) (n .arriving .market) .legal (e .sell));
+  contra = rw (n .faces .contra) (if-any-is (if-any-contra (e .sell) (facts-of (n .arriving) .1)));
 }
 
 -- so it may be put to a book in which C is the same for a kind that minds it
@@ -84,19 +84,19 @@ prices-known {t} {e} {b} {c} p = ap (λ (x : Prices). cond (sliding (e .kind)) x
     go true q = ap to (p .known q)
     go false q = unminded (t .m) (e .kind) (e .sell) (e .limit) (away (marketOf t) (e .sell)) c (contra (e .sell) (entriesOf b)) q
 
-pub given-high : {m p : ℕ} → NoneOrLegal m p → p ≤ topPrice
-given-high {m} {p} g = pick (eqb p 0) refl
+pub if-any-high : {m p : ℕ} → LegalIfAny m p → p ≤ topPrice
+if-any-high {m} {p} g = pick (eqb p 0) refl
   where
     pick : (b : Bool) → eqb p 0 ≡ b → p ≤ topPrice
     pick true q = omega (arith, eqb-true p 0 q)
     pick false q = g .legal q .high
 
-pub given-display : {m top : ℕ} (x : Entry) → EntryFacts m top x → NoneOrLegal m (display x)
+pub given-display : {m top : ℕ} (x : Entry) → EntryFacts m top x → LegalIfAny m (display x)
 given-display {m} x f = pick (x .pricing) (f .prices)
   where
-    pick : (p : Pricing) → PricedAs m (x .kind) (x .sell) (x .limit) (x .working) p → NoneOrLegal m (shownAs (x .limit) p)
+    pick : (p : Pricing) → PricedAs m (x .kind) (x .sell) (x .limit) (x .working) p → LegalIfAny m (shownAs (x .limit) p)
     pick Fixed h = given-legal (f .limit)
-    pick Dark h = given-none
+    pick Dark h = if-any-none
     pick (Sliding d) h = given-legal (h .slides .shown)
 
 -- ---- price protection ----
@@ -104,10 +104,10 @@ given-display {m} x f = pick (x .pricing) (f .prices)
 pub national-cents : {t : Terms} {e : Entry} {f : Facing} {b : Book} → Enters t e f b → Cents (f .national) (e .limit)
 national-cents {t} {e} {f} {b} n =
     let k = facts-of (n .arriving) in
-    let g : NoneOrLegal (t .m) (national (e .sell) (away (marketOf t) (e .sell)) (entriesOf b)) =
-    given-nearest display (e .sell) (away (marketOf t) (e .sell)) (entriesOf b) (k .0 .given (e .sell))
+    let g : LegalIfAny (t .m) (national (e .sell) (away (marketOf t) (e .sell)) (entriesOf b)) =
+    if-any-nearest display (e .sell) (away (marketOf t) (e .sell)) (entriesOf b) (k .0 .legal (e .sell))
     (all-map (λ x h. given-display x h) (entriesOf b) (k .1 .entries)) in
-    record { best = rw (n .faces .national) (given-high g); limit = is-legal (t .m) (e .limit) (n .arriving .limit) .high }
+    record { best = rw (n .faces .national) (if-any-high g); limit = is-legal (t .m) (e .limit) (n .arriving .limit) .high }
 
 pub protected-by : {t : Terms} {e : Entry} {f : Facing} {b : Book} → Enters t e f b → protectionBefore t e (f .national) ≡ protectionFor t e (entriesOf b)
 unfolding protectionFor

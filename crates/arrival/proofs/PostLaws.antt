@@ -18,7 +18,7 @@ use Rattle.kinds.proofs.KindLaws.{rigid-takes, sliding-heavy}
 use Rattle.prices.specs.Aims.{minded, upTo, shortOf, aimWorking, aims}
 use Rattle.prices.specs.Post.{bars20, bars22, bars23, firstStop, stopped}
 use Rattle.prices.proofs.FrameLaws.{seen, seen-high, seen-meek, meek-either, reaches-false, reaches-not}
-use Rattle.prices.proofs.StepLaws.{Legal, NoneOrLegal, within-last}
+use Rattle.prices.proofs.StepLaws.{Legal, LegalIfAny, within-last}
 use Rattle.prices.proofs.AimLaws.{unbound, faced, Aimed, aimed}
 use Rattle.prices.proofs.RestLaws.{Slides, arrives}
 use Rattle.prices.proofs.QuoteLaws.{unmarketable, minding-rests}
@@ -33,7 +33,7 @@ use Rattle.book.specs.declared.Pricing.the-variants.{Fixed, Dark, Sliding}
 use Rattle.book.specs.Entries.{shownAs, display, displayed, against, lastNumber}
 use Rattle.book.specs.Look.{eligible, contra, hidden, hiddenWithin}
 use Rattle.soundness_theory.proofs.Facts.{PricedAs, EntryFacts, Clear, Sound}
-use Rattle.soundness_theory.proofs.FrontLaws.{given-contra}
+use Rattle.soundness_theory.proofs.FrontLaws.{if-any-contra}
 use Rattle.soundness_theory.proofs.KeepLaws.{here-facts, short-clear}
 use Rattle.telling.specs.Tell.{rested}
 use Rattle.soundness_theory.proofs.MarketFacts.{MarketFacts}
@@ -56,7 +56,7 @@ module _ (k : Market) (e : Entry) where
       go true = omega (arith, seen-high (e .sell) (e .limit) h)
       go false = seen-meek (e .sell) (e .limit) (away k (e .sell))
 
-  pub bound-high : {m : ℕ} → Legal m (e .limit) → NoneOrLegal m (away k (e .sell)) → bound k e ≤ 200000
+  pub bound-high : {m : ℕ} → Legal m (e .limit) → LegalIfAny m (away k (e .sell)) → bound k e ≤ 200000
   unfolding upTo
   bound-high hl ga = go (eqb (away k (e .sell)) 0) refl
     where
@@ -113,7 +113,7 @@ module _ (t : Terms) (e : Entry) (l : List Entry) (left top : ℕ) (mk : MarketF
 
   aim-is : Aimed (t .m) (e .sell) (e .limit) (away (marketOf t) (e .sell)) (minded (e .kind) (contra (e .sell) l)) aim
   unfolding aim
-  aim-is = aimed (e .kind) (e .sell) (mk .step) hl (mk .given (e .sell)) (given-contra (e .sell) so)
+  aim-is = aimed (e .kind) (e .sell) (mk .step) hl (mk .legal (e .sell)) (if-any-contra (e .sell) so)
 
   -- at its limit, with nothing there: what is displayed there it has taken, unless 20 stopped it, and for what is not 21 would have
   at-limit : minds (e .kind) ≡ false → (not (eqb (away (marketOf t) (e .sell)) 0) && reaches (e .sell) (e .limit) (away (marketOf t) (e .sell))) ≡ false
@@ -143,7 +143,7 @@ module _ (t : Terms) (e : Entry) (l : List Entry) (left top : ℕ) (mk : MarketF
   short : minds (e .kind) ≡ true → seen (e .sell) (aim .working) < faced (e .sell) (contra (e .sell) l)
   unfolding aim
   short mi =
-      unmarketable (e .kind) (e .sell) (mk .step) (given-contra (e .sell) so) aim aim-is
+      unmarketable (e .kind) (e .sell) (mk .step) (if-any-contra (e .sell) so) aim aim-is
       (minding-rests (e .kind) (e .sell) (contra (e .sell) l) aim mi)
 
   slider-clear : sliding (e .kind) ≡ true → (b : Bool) → minds (e .kind) ≡ b → All (Clear (asPosted e left aim)) l
@@ -171,7 +171,7 @@ module _ (t : Terms) (e : Entry) (l : List Entry) (left top : ℕ) (mk : MarketF
       }
       by true q b20 b21 b23 =
           let sl : Slides (t .m) (e .sell) (e .limit) (aim .display) (aim .working) =
-          arrives (e .sell) (mk .step) hl (mk .given (e .sell)) aim aim-is (within-last (t .m) (aim .display) (e .sell) b23) in
+          arrives (e .sell) (mk .step) hl (mk .legal (e .sell)) aim aim-is (within-last (t .m) (aim .display) (e .sell) b23) in
           record {
             works = sl .works;
             prices = slider-prices (t .m) (e .kind) (e .sell) (e .limit) (aim .working) (aim .display) q sl;

@@ -131,7 +131,8 @@ module _ (s : Series) (a : Ask) (ok : Accepted s a) where
       e : Entry
       e = comer (s .terms .given) a
 
-      go : (b : Bool) → enters (a .kind) ≡ b → (b₇ : Bool) → cancelsEntry (a .kind) ≡ b₇ → (b₈ : Bool) → cancelsQuote (a .kind) ≡ b₈ → (b₁₁ : Bool) → setsPhase (a .kind) ≡ b₁₁
+      go : (b : Bool) → enters (a .kind) ≡ b → (b₇ : Bool) → cancelsEntry (a .kind) ≡ b₇ → (b₈ : Bool) → cancelsQuote (a .kind) ≡ b₈ → (b₁₁ : Bool)
+          → setsPhase (a .kind) ≡ b₁₁
           → Part (t .m) (cond b (t .given + 1) (t .given)) (cond b₁₁ (a .quantity) (t .phase)) 72
           (cond b (arrived t e l)
           (cond b₇ (cancelEntry (a .party) (a .entry) l)

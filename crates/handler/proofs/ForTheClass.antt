@@ -43,7 +43,7 @@ use Rattle.arrival.proofs.ArriveTells.{arrived-says}
 use Rattle.arrival.proofs.Within.{arrival-within-away}
 use Rattle.arrival.proofs.CutLaws.{cut-all, quote-all}
 use Rattle.arrival.proofs.SweepLaws.{sweep-all}
-use Rattle.arrival.proofs.EnterLaws.{given-high, given-display}
+use Rattle.arrival.proofs.EnterLaws.{if-any-high, given-display}
 use Rattle.arrival.proofs.Afterwards.{arrived-all, cut-says, sweep-says}
 use Rattle.series.specs.declared.Series.{Series}
 use Rattle.handler.specs.declared.Ask.{Ask}
@@ -148,7 +148,7 @@ module _ (s : Series) (a : Ask) where
             let was : v .was ≡ y = one-number so (v .place) i (v .was) y (v .there) at (v .number ∙ sym same) in
             let side : x .sell ≡ y .sell = sym (v .sell) ∙ ap (λ (z : Entry). z .sell) was in
             reached (y .sell) (display x) (display y)
-            (omega (arith, given-high (given-display x (here-facts after j x there)))) (omega (arith, given-high (given-display y (here-facts so i y at))))
+            (omega (arith, if-any-high (given-display x (here-facts after j x there)))) (omega (arith, if-any-high (given-display y (here-facts so i y at))))
             (subst (λ (b : Bool). seen b (display y) ≤ seen b (display x)) side
             (subst (λ (z : Entry). seen (x .sell) (display z) ≤ seen (x .sell) (display x)) was (v .forward)))
 
@@ -167,14 +167,14 @@ module _ (s : Series) (a : Ask) where
 
     pub record AddsOnly : Type 0 where
       -- whether it rests when the message comes
-      pub asPosted : (i : ℕ) (y : Entry) → At (entriesOf (s .book)) i y → minds (y .kind) ≡ true
+      pub resting : (i : ℕ) (y : Entry) → At (entriesOf (s .book)) i y → minds (y .kind) ≡ true
           → All (NotTaker (y .number)) (done (s .terms) a (entriesOf (s .book)) .records)
       -- or is what the message brings
       pub arriving : enters (a .kind) ≡ true → minds (a .kind) ≡ true → All (NotTaker (s .terms .given + 1)) (done (s .terms) a (entriesOf (s .book)) .records)
 
     pub adds-only : AddsOnly
     adds-only = record {
-      asPosted = λ i y at k. spares (y .number) (here-facts so i y at .counted) (minding-all so i y at k)
+      resting = λ i y at k. spares (y .number) (here-facts so i y at .counted) (minding-all so i y at k)
           (λ q z. absurd (omega (arith, here-facts so i y at .given, z)));
       arriving = λ q k. spares (t .given + 1) (omega arith) (all-map (λ x f z. absurd (omega (arith, f .given, z))) l (so .entries)) (λ _ _. k);
     }

@@ -32,7 +32,7 @@ use Rattle.arrival.proofs.CutLaws.{quote-length}
 use Rattle.series.specs.declared.Series.{Series}
 use Rattle.series.specs.Series.{soundSeries}
 use Rattle.series.specs.SoundSeries.{NoneOrLegal, LegalTerms}
-use Rattle.series.proofs.TermsLaws.{given-price}
+use Rattle.series.proofs.TermsLaws.{if-any-price}
 use Rattle.series.proofs.SeriesFacts.{SeriesFacts, series-facts}
 use Rattle.handler.specs.declared.Ask.{Ask}
 use Rattle.handler.specs.Asked.{askOf}
@@ -188,10 +188,10 @@ module _ (s : Series) (a : Ask) (ok : Accepted s a) where
         (λ q. leb-true (a .quantity) 2 (not-false (leb (a .quantity) 2) (rw (eqb-true (a .kind) 11 q, stays-out 11 refl) at (tests .quantity))))
         (λ q. facts .sound .terms .phase);
     bid = cond-either (λ (n : ℕ). NoneOrLegal (s .terms .m) n) (setsAway (a .kind)) (a .price) (s .terms .bid)
-        (λ q. given-price (s .terms .m) (a .price) (and-left (noneOrLegal (s .terms .m) (a .price)) (noneOrLegal (s .terms .m) (a .second)) (aways q)))
+        (λ q. if-any-price (s .terms .m) (a .price) (and-left (noneOrLegal (s .terms .m) (a .price)) (noneOrLegal (s .terms .m) (a .second)) (aways q)))
         (λ q. facts .sound .terms .bid);
     offer = cond-either (λ (n : ℕ). NoneOrLegal (s .terms .m) n) (setsAway (a .kind)) (a .second) (s .terms .offer)
-        (λ q. given-price (s .terms .m) (a .second) (and-right (noneOrLegal (s .terms .m) (a .price)) (noneOrLegal (s .terms .m) (a .second)) (aways q)))
+        (λ q. if-any-price (s .terms .m) (a .second) (and-right (noneOrLegal (s .terms .m) (a .price)) (noneOrLegal (s .terms .m) (a .second)) (aways q)))
         (λ q. facts .sound .terms .offer);
     underlying = cond-either (λ (n : ℕ). n ≤ topUnderlying) (setsUnderlying (a .kind)) (a .price) (s .terms .underlying)
         (λ q. leb-true (a .price) topUnderlying (not-false (leb (a .price) topUnderlying) (rw (eqb-true (a .kind) 10 q, stays-out 10 refl) at (tests .price))))

@@ -50,7 +50,8 @@ module _ (t : Terms) (a : Ask) (l : List Entry) where
   unfolding ownPart
   own-phase q = rw (q, stays-out 11 refl)
 
-  pub own-noted : enters (a .kind) ≡ false → cancelsEntry (a .kind) ≡ false → cancelsQuote (a .kind) ≡ false → setsPhase (a .kind) ≡ false → ownPart t a l ≡ reported Noted l
+  pub own-noted : enters (a .kind) ≡ false → cancelsEntry (a .kind) ≡ false → cancelsQuote (a .kind) ≡ false → setsPhase (a .kind) ≡ false
+      → ownPart t a l ≡ reported Noted l
   unfolding ownPart
   own-noted q q₇ q₈ q₁₁ = rw (q, q₇, q₈, q₁₁)
 

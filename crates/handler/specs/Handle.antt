@@ -58,7 +58,7 @@ firstOf one number other next = cond one number (cond other next 0)
 abbrev pub beforeReading : ℕ → Bool → ℕ
 beforeReading space sound = firstOf (ltb space roomSize) 10 (not sound) 11
 
--- what is answered to what a message unpacks to: 10 is tested, then 11, and then the message is read
+-- what is answered to what a message unpacks to, which is looked at once 10 and 11 are tested
 unfoldable pub handledAs : Series → Option Event → List ℕ → Handled
 handledAs s event room = refusedOr (beforeReading (length room) (soundSeries s)) s room (heard s room event)
 

@@ -1,4 +1,5 @@
--- THE TABLE OF KINDS. What a rule asks of a message's kind, or of an entry's, it asks of this table and of nothing else: a new kind is a new row.
+-- THE TABLE OF KINDS. What a rule asks of a message's kind, or of an entry's, it asks here: of the table, so that a new kind is a new row; of kinds that are
+-- one of a sort, by their numbers below. (Which bytes a kind has is packing's to say.)
 -- Assumes nothing.
 use Prim.Native.Nat.{ℕ}
 use mathlib.Core.Bool.{Bool, true, false, cond}
@@ -7,19 +8,19 @@ use lib.Dec.{eqb}
 
 -- what is so of a kind
 pub record Kind : Type 0 where
-  -- it is a quote or an order, which takes an entry number and may rest
+  -- "kinds 1-6": quotes and orders, which take an entry number and may rest
   pub enters : Bool
-  -- it is a quote
+  -- "plain, MMLO, MMALO, MMRP quote"
   pub quotes : Bool
   -- "Only a sliding kind carries a display price apart from its limit: MMALO and MMRP."
   pub sliding : Bool
-  -- it has C among its bounds, and never takes: MMALO
+  -- "MMALO: aim for display is the least of L, A-M, C-M": it has C among its bounds; "Then MMALO: aims, no trade."
   pub minds : Bool
-  -- it is dark: it works at its limit and shows no price
+  -- "dark order": "dark ones work at the limit", and show no price
   pub dark : Bool
   -- "MMLO arriving passes over undisplayed interest"
   pub light : Bool
-  -- it names a party
+  -- it has party among its fields: "Tests on party and the like apply only to kinds that carry the field."
   pub carries : Bool
   -- and one of the makers: "kinds 1-4, 8, 12: outside 1-16"
   pub makers : Bool

@@ -43,7 +43,8 @@ pub no-place : (room : List ℕ) (k : ℕ) → length room / 14 ≤ k → stands
 no-place room k h = unpack-short reports (drop (reportSize * k) room) (rw length-drop (omega arith))
 
 -- the part of the room that is handed to the unpacker
-pub place-part : (room : List ℕ) (k : ℕ) (u : Unpacked) → u ≡ unpacked (unpackOf reports (take (reportSize * k + 14 - reportSize * k) (drop (reportSize * k) room)))
+pub place-part : (room : List ℕ) (k : ℕ) (u : Unpacked)
+    → u ≡ unpacked (unpackOf reports (take (reportSize * k + 14 - reportSize * k) (drop (reportSize * k) room)))
     → u ≡ unpacked (standsAt room k)
 place-part room k u h = h ∙ ap (λ (n : ℕ). unpacked (unpackOf reports (take n (drop (reportSize * k) room)))) long
   where

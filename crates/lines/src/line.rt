@@ -46,7 +46,8 @@ fn put_report(out: &mut [u8], at: usize, number: u64, report: Report) -> usize
 // The report at a place of the room; no line where none stands there.
 fn put_place(out: &mut [u8], at: usize, number: u64, room: &[u8], k: usize) -> usize
     requires { ⌜ at + length (lineOf number (unpackOf reports (take reportSize (drop (reportSize * k) (now room))))) ≤ length (now out) ⌝ }
-    ensures { λ r. ⌜ TextPut (now (out .entry)) at (lineOf number (unpackOf reports (take reportSize (drop (reportSize * k) (now (room .entry)))))) (now (out .exit)) r ⌝ }
+    ensures { λ r.
+        ⌜ TextPut (now (out .entry)) at (lineOf number (unpackOf reports (take reportSize (drop (reportSize * k) (now (room .entry)))))) (now (out .exit)) r ⌝ }
 {
     if room.len() / SIZE <= k {
         return at;

@@ -13,7 +13,7 @@ use Rattle.prices.specs.Step.{back}
 use Rattle.kinds.specs.Kinds.{minds}
 use Rattle.prices.specs.Aims.{minded, upTo, shortOf, aimDisplay, aimWorking, aims}
 use Rattle.prices.proofs.FrameLaws.{seen, seen-inj, seen-high, seen-meek, meek-either}
-use Rattle.prices.proofs.StepLaws.{Mpv, Legal, NoneOrLegal, given-none, back-lt, back-grid, back-high, back-legal}
+use Rattle.prices.proofs.StepLaws.{Mpv, Legal, LegalIfAny, if-any-none, back-lt, back-grid, back-high, back-legal}
 
 pub back-mono : {m p q : ℕ} (s : Bool) → Mpv m → Legal m p → Legal m q → seen s p ≤ seen s q → seen s (back m s p) ≤ seen s (back m s q)
 back-mono {m} {p} {q} s v a b h = go (leb (seen s q) (seen s p)) refl
@@ -36,7 +36,7 @@ faced s x = cond (eqb x 0) unbound (seen s x)
 unfoldable pub before : ℕ → Bool → ℕ → ℕ
 before m s x = cond (eqb x 0) unbound (seen s (back m s x))
 
-pub before-le : {m x : ℕ} (s : Bool) → Mpv m → NoneOrLegal m x → before m s x ≤ faced s x
+pub before-le : {m x : ℕ} (s : Bool) → Mpv m → LegalIfAny m x → before m s x ≤ faced s x
 unfolding faced before
 before-le {m} {x} s v g = go (eqb x 0) refl
   where
@@ -44,12 +44,12 @@ before-le {m} {x} s v g = go (eqb x 0) refl
     go true e = omega arith
     go false e = omega (arith, back-lt s v (g .legal e))
 
-pub before-lt : {m x : ℕ} (s : Bool) → Mpv m → NoneOrLegal m x → eqb x 0 ≡ false → before m s x < seen s x
+pub before-lt : {m x : ℕ} (s : Bool) → Mpv m → LegalIfAny m x → eqb x 0 ≡ false → before m s x < seen s x
 unfolding before
 before-lt {m} {x} s v g e = rw e (back-lt s v (g .legal e))
 
 -- a legal price short of x is at most one step before it
-pub before-grid : {m x p : ℕ} (s : Bool) → Mpv m → NoneOrLegal m x → Legal m p → seen s p < faced s x → seen s p ≤ before m s x
+pub before-grid : {m x p : ℕ} (s : Bool) → Mpv m → LegalIfAny m x → Legal m p → seen s p < faced s x → seen s p ≤ before m s x
 unfolding faced before
 before-grid {m} {x} {p} s v g a = go (eqb x 0) refl
   where
@@ -57,7 +57,7 @@ before-grid {m} {x} {p} s v g a = go (eqb x 0) refl
     go true e h = omega arith
     go false e h = back-grid s v a (g .legal e) h
 
-pub before-mono : {m x y : ℕ} (s : Bool) → Mpv m → NoneOrLegal m x → NoneOrLegal m y → faced s x ≤ faced s y → before m s x ≤ before m s y
+pub before-mono : {m x y : ℕ} (s : Bool) → Mpv m → LegalIfAny m x → LegalIfAny m y → faced s x ≤ faced s y → before m s x ≤ before m s y
 unfolding faced before
 before-mono {m} {x} {y} s v g k = go (eqb x 0) (eqb y 0) refl refl
   where
@@ -69,7 +69,7 @@ before-mono {m} {x} {y} s v g k = go (eqb x 0) (eqb y 0) refl refl
     go false false e f h = back-mono s v (g .legal e) (k .legal f) h
 
 -- one step back from a price within x is within one step before x
-back-before : {m x p : ℕ} (s : Bool) → Mpv m → NoneOrLegal m x → Legal m p → seen s p ≤ faced s x → seen s (back m s p) ≤ before m s x
+back-before : {m x p : ℕ} (s : Bool) → Mpv m → LegalIfAny m x → Legal m p → seen s p ≤ faced s x → seen s (back m s p) ≤ before m s x
 unfolding faced before
 back-before {m} {x} {p} s v g k = go (eqb x 0) refl
   where
@@ -122,15 +122,15 @@ pub record Aimed (m : ℕ) (s : Bool) (l a x : ℕ) (p : Prices) : Type 0 where
   pub display-is : seen s (p .display) ≡ min (min (seen s l) (before m s a)) (before m s x)
   pub working-is : seen s (p .working) ≡ min (min (seen s l) (faced s a)) (before m s x)
 
-pub given-minded : {m c : ℕ} (kind : ℕ) → NoneOrLegal m c → NoneOrLegal m (minded kind c)
+pub if-any-minded : {m c : ℕ} (kind : ℕ) → LegalIfAny m c → LegalIfAny m (minded kind c)
 unfolding minded
-given-minded {m} {c} kind gc = go (minds kind)
+if-any-minded {m} {c} kind gc = go (minds kind)
   where
-    go : (t : Bool) → NoneOrLegal m (cond t c 0)
+    go : (t : Bool) → LegalIfAny m (cond t c 0)
     go true = gc
-    go false = given-none
+    go false = if-any-none
 
-pub aimed : {m l a c : ℕ} (kind : ℕ) (s : Bool) → Mpv m → Legal m l → NoneOrLegal m a → NoneOrLegal m c → Aimed m s l a (minded kind c) (aims m kind s l a c)
+pub aimed : {m l a c : ℕ} (kind : ℕ) (s : Bool) → Mpv m → Legal m l → LegalIfAny m a → LegalIfAny m c → Aimed m s l a (minded kind c) (aims m kind s l a c)
 unfolding aimDisplay aimWorking upTo shortOf
 aimed {m} {l} {a} {c} kind s v hl ha gc = record {
   near-display = bound-keeps (Near m s) s x (back m s x) (shortOf m s a l) nd (λ e. near-back s v (hx .legal e));
@@ -143,8 +143,8 @@ aimed {m} {l} {a} {c} kind s v hl ha gc = record {
     x : ℕ
     x = minded kind c
 
-    hx : NoneOrLegal m x
-    hx = given-minded kind gc
+    hx : LegalIfAny m x
+    hx = if-any-minded kind gc
 
     nd : Near m s (shortOf m s a l)
     nd = bound-keeps (Near m s) s a (back m s a) l (near s hl) (λ e. near-back s v (ha .legal e))
@@ -152,7 +152,7 @@ aimed {m} {l} {a} {c} kind s v hl ha gc = record {
     nw : Near m s (upTo s a l)
     nw = bound-keeps (Near m s) s a a l (near s hl) (λ e. near s (ha .legal e))
 
-module _ {m l a x : ℕ} (s : Bool) (v : Mpv m) (ga : NoneOrLegal m a) (p : Prices) (ai : Aimed m s l a x p) where
+module _ {m l a x : ℕ} (s : Bool) (v : Mpv m) (ga : LegalIfAny m a) (p : Prices) (ai : Aimed m s l a x p) where
   -- the display aim is no more aggressive than the working aim,
   pub aims-order : seen s (p .display) ≤ seen s (p .working)
   aims-order = omega (arith, ai .display-is, ai .working-is, before-le s v ga)

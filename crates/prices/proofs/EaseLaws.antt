@@ -9,7 +9,7 @@ use lib.Dec.{eqb, ltb}
 use Rattle.prices.specs.Side.{keen, reaches}
 use Rattle.prices.specs.Ease.{beyond, easedTo, eases}
 use Rattle.prices.proofs.FrameLaws.{seen, seen-inj, seen-high, seen-keen, keen-either, reaches-true, reaches-false}
-use Rattle.prices.proofs.StepLaws.{Mpv, Legal, NoneOrLegal, present}
+use Rattle.prices.proofs.StepLaws.{Mpv, Legal, LegalIfAny, present}
 use Rattle.prices.proofs.AimLaws.{unbound, faced, back-mono}
 use Rattle.prices.proofs.RestLaws.{Slides, Eased}
 use Rattle.lists.proofs.Bools.{clash, and-left, and-right}
@@ -18,7 +18,7 @@ left-alone : (s : Bool) (a d w : ℕ) → beyond s a w ≡ false → eases s a d
 unfolding eases easedTo
 left-alone s a d w q = rw (q, eq-eqb w w refl)
 
-module _ {m l a d w : ℕ} (s : Bool) (v : Mpv m) (ga : NoneOrLegal m a) (sl : Slides m s l d w) where
+module _ {m l a d w : ℕ} (s : Bool) (v : Mpv m) (ga : LegalIfAny m a) (sl : Slides m s l d w) where
   within : beyond s a w ≡ false → seen s w ≤ faced s a
   unfolding faced
   within e = go (eqb a 0) (reaches s a w) refl e
@@ -64,7 +64,7 @@ pub record Dropped (m : ℕ) (s : Bool) (l a d w w′ : ℕ) : Type 0 where
   pub less : seen s w′ < seen s w
   pub uneased : eases s a d w′ ≡ false
 
-module _ {m l a d w : ℕ} (s : Bool) (v : Mpv m) (ga : NoneOrLegal m a) (sl : Slides m s l d w) where
+module _ {m l a d w : ℕ} (s : Bool) (v : Mpv m) (ga : LegalIfAny m a) (sl : Slides m s l d w) where
   -- easing again changes nothing
   once : (k : Drops s v ga sl) → eases s a d (keen s d a) ≡ false
   unfolding eases easedTo

@@ -12,12 +12,12 @@ use Rattle.kinds.specs.Kinds.{minds}
 use Rattle.prices.specs.Aims.{minded, aims}
 use Rattle.prices.specs.Rest.{marketable, restingPrices, atRest, stirsAt}
 use Rattle.prices.proofs.FrameLaws.{seen, seen-high, reaches-false, unreached}
-use Rattle.prices.proofs.StepLaws.{Mpv, Legal, NoneOrLegal}
+use Rattle.prices.proofs.StepLaws.{Mpv, Legal, LegalIfAny}
 use Rattle.prices.proofs.AimLaws.{unbound, faced, before, before-lt, before-grid, before-mono, Aimed, aimed}
 use Rattle.prices.proofs.RestLaws.{Slides, Eased, AtRest, reach, moved-rests, moved-eased, moved-on, moved-short, moved-slides, rest-is, is-rest}
 use Rattle.lists.proofs.Bools.{or-false-right}
 
-module _ {m c : ℕ} (kind : ℕ) (s : Bool) (v : Mpv m) (gc : NoneOrLegal m c) where
+module _ {m c : ℕ} (kind : ℕ) (s : Bool) (v : Mpv m) (gc : LegalIfAny m c) where
   -- a legal price short of the contra price is at most one step before the contra price that the kind minds
   pub minded-grid : {w : ℕ} → Legal m w → seen s w < faced s c → seen s w ≤ before m s (minded kind c)
   unfolding minded before
@@ -56,7 +56,7 @@ pub minding-rests : (kind : ℕ) (s : Bool) (c : ℕ) (p : Prices) → minds kin
 unfolding marketable
 minding-rests kind s c p e = rw e
 
-minded-mono : {m c c′ : ℕ} (kind : ℕ) (s : Bool) → Mpv m → NoneOrLegal m c → NoneOrLegal m c′ → faced s c′ ≤ faced s c
+minded-mono : {m c c′ : ℕ} (kind : ℕ) (s : Bool) → Mpv m → LegalIfAny m c → LegalIfAny m c′ → faced s c′ ≤ faced s c
     → before m s (minded kind c′) ≤ before m s (minded kind c)
 unfolding minded
 minded-mono {m} {c} {c′} kind s v gc gd h = go (minds kind)
@@ -65,7 +65,7 @@ minded-mono {m} {c} {c′} kind s v gc gd h = go (minds kind)
     go true = before-mono s v gd gc h
     go false = omega arith
 
-module _ {m l a c d w : ℕ} (kind : ℕ) (s : Bool) (v : Mpv m) (ga : NoneOrLegal m a) (gc : NoneOrLegal m c) (sl : Slides m s l d w) where
+module _ {m l a c d w : ℕ} (kind : ℕ) (s : Bool) (v : Mpv m) (ga : LegalIfAny m a) (gc : LegalIfAny m c) (sl : Slides m s l d w) where
   pub aim-aimed : Aimed m s l a (minded kind c) (aims m kind s l a c)
   aim-aimed = aimed kind s v (sl .limit) ga gc
 
@@ -88,7 +88,7 @@ module _ {m l a c d w : ℕ} (kind : ℕ) (s : Bool) (v : Mpv m) (ga : NoneOrLeg
   )
 
 -- a contra price that comes closer only lowers the aims: a quote at rest stays at rest
-pub unstirred-stays : {m l a c c′ d w : ℕ} (kind : ℕ) (s : Bool) → Mpv m → NoneOrLegal m a → NoneOrLegal m c → NoneOrLegal m c′ → Slides m s l d w
+pub unstirred-stays : {m l a c c′ d w : ℕ} (kind : ℕ) (s : Bool) → Mpv m → LegalIfAny m a → LegalIfAny m c → LegalIfAny m c′ → Slides m s l d w
     → Eased s a d w
     → faced s c′ ≤ faced s c → seen s w < faced s c′ → stirsAt m kind s l a c d w ≡ false → stirsAt m kind s l a c′ d w ≡ false
 unstirred-stays {m} {l} {a} {c} {c′} {d} {w} kind s v ga gc gd sl ez closer h e =
@@ -118,7 +118,7 @@ pub record Moved (m kind : ℕ) (s : Bool) (l a c w : ℕ) (p : Prices) : Type 0
   pub on : seen s w ≤ seen s (p .working)
   pub unstirred : stirsAt m kind s l a c (p .display) (p .working) ≡ false
 
-pub moves : {m l a c d w : ℕ} (kind : ℕ) (s : Bool) → Mpv m → NoneOrLegal m a → NoneOrLegal m c → Slides m s l d w → Eased s a d w → seen s w < faced s c
+pub moves : {m l a c d w : ℕ} (kind : ℕ) (s : Bool) → Mpv m → LegalIfAny m a → LegalIfAny m c → Slides m s l d w → Eased s a d w → seen s w < faced s c
     → marketable kind s c (aims m kind s l a c) ≡ false → Moved m kind s l a c w (restingPrices s d (aims m kind s l a c))
 moves {m} {l} {a} {c} {d} {w} kind s v ga gc sl ez h e = record {
   slides = slides′;

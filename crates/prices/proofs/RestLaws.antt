@@ -12,7 +12,7 @@ use Rattle.prices.specs.Side.{keen, reaches}
 use Rattle.prices.specs.Step.{legal, back, lastPrice}
 use Rattle.prices.specs.Rest.{restingPrices, atRest, slides}
 use Rattle.prices.proofs.FrameLaws.{seen, seen-inj, seen-keen, keen-either, reaches-true, reached}
-use Rattle.prices.proofs.StepLaws.{Mpv, Legal, NoneOrLegal, is-legal, legal-is, back-lt, back-high, last-legal}
+use Rattle.prices.proofs.StepLaws.{Mpv, Legal, LegalIfAny, is-legal, legal-is, back-lt, back-high, last-legal}
 use Rattle.prices.proofs.AimLaws.{faced, before, Aimed, aims-order, aims-limit, aims-away, aims-step}
 use Rattle.lists.proofs.Bools.{and-left, and-right}
 
@@ -58,7 +58,7 @@ slides-is {m} {l} {d} {w} s v sl = rw (
 
 -- ---- arrival: the aims of a quote that may be shown are sound prices ----
 
-pub arrives : {m l a x : ℕ} (s : Bool) → Mpv m → Legal m l → NoneOrLegal m a → (p : Prices) → Aimed m s l a x p
+pub arrives : {m l a x : ℕ} (s : Bool) → Mpv m → Legal m l → LegalIfAny m a → (p : Prices) → Aimed m s l a x p
     → seen s (lastPrice m s) ≤ seen s (p .display) → Slides m s l (p .display) (p .working)
 arrives {m} s v hl ga p ai h = record {
   limit = hl;
@@ -100,7 +100,7 @@ module _ (s : Bool) (d : ℕ) (p : Prices) where
   moved-rests = record { display = omega (arith, moved-display); working = omega (arith, moved-working) }
 
 -- a quote with limit l, display d and working price w, and its aims
-module _ {m l a x d w : ℕ} (s : Bool) (v : Mpv m) (ga : NoneOrLegal m a) (p : Prices) (ai : Aimed m s l a x p) (sl : Slides m s l d w) where
+module _ {m l a x d w : ℕ} (s : Bool) (v : Mpv m) (ga : LegalIfAny m a) (p : Prices) (ai : Aimed m s l a x p) (sl : Slides m s l d w) where
   -- an eased quote short of the contra price that it minds works no further than its display or its working aim
   pub reach : Eased s a d w → seen s w ≤ before m s x → seen s w ≤ max (seen s d) (seen s (p .working))
   reach e h = go (leb (seen s w) (faced s a)) refl

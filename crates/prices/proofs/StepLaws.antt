@@ -25,7 +25,7 @@ pub record Legal (m p : ℕ) : Type 0 where
   pub grid : p % m ≡ 0
 
 -- none, or legal
-pub record NoneOrLegal (m p : ℕ) : Type 0 where
+pub record LegalIfAny (m p : ℕ) : Type 0 where
   pub legal : eqb p 0 ≡ false → Legal m p
 
 pub is-mpv : (m : ℕ) → mpv m ≡ true → Mpv m
@@ -50,22 +50,22 @@ pub legal-is : {m p : ℕ} → Legal m p → legal m p ≡ true
 unfolding legal onGrid
 legal-is {m} {p} a = rw (le-leb m p (a .low), le-leb p topPrice (a .high), eq-eqb (p % m) 0 (a .grid))
 
-pub is-none-or-legal : (m p : ℕ) → noneOrLegal m p ≡ true → NoneOrLegal m p
+pub is-none-or-legal : (m p : ℕ) → noneOrLegal m p ≡ true → LegalIfAny m p
 unfolding noneOrLegal
 is-none-or-legal m p h = record { legal = λ e. is-legal m p (rw e at h) }
 
-pub given-is : {m p : ℕ} → NoneOrLegal m p → noneOrLegal m p ≡ true
+pub if-any-is : {m p : ℕ} → LegalIfAny m p → noneOrLegal m p ≡ true
 unfolding noneOrLegal
-given-is {m} {p} g = go (eqb p 0) refl
+if-any-is {m} {p} g = go (eqb p 0) refl
   where
     go : (b : Bool) → eqb p 0 ≡ b → (b || legal m p) ≡ true
     go true e = refl
     go false e = legal-is (g .legal e)
 
-pub given-none : {m : ℕ} → NoneOrLegal m 0
-given-none = record { legal = λ e. absurd (eqb-false 0 0 e refl) }
+pub if-any-none : {m : ℕ} → LegalIfAny m 0
+if-any-none = record { legal = λ e. absurd (eqb-false 0 0 e refl) }
 
-pub given-legal : {m p : ℕ} → Legal m p → NoneOrLegal m p
+pub given-legal : {m p : ℕ} → Legal m p → LegalIfAny m p
 given-legal a = record { legal = λ _. a }
 
 -- multiples of each MPV by constant divisors

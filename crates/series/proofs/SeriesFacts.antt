@@ -24,7 +24,7 @@ use Rattle.terms.specs.Terms.{marketOf}
 use Rattle.series.specs.declared.Series.{Series}
 use Rattle.series.specs.Series.{soundSeries}
 use Rattle.series.specs.SoundSeries.{LegalTerms, SoundPhase, SoundSeries}
-use Rattle.series.proofs.TermsLaws.{step-mpv, price-given, facts-terms, facts-phase}
+use Rattle.series.proofs.TermsLaws.{step-mpv, price-if-any, facts-terms, facts-phase}
 use Rattle.series.proofs.SoundSeriesDecides.{passes, passed, sound-series-decides}
 
 -- ---- the book ----
@@ -64,7 +64,7 @@ module _ (m top : ℕ) where
 -- sound numbers are a sound market
 pub terms-market : (t : Terms) → LegalTerms t → soundMarket (marketOf t) ≡ true
 unfolding soundMarket
-terms-market t f = rw (step-mpv (f .step), price-given (t .m) (t .bid) (f .bid), price-given (t .m) (t .offer) (f .offer))
+terms-market t f = rw (step-mpv (f .step), price-if-any (t .m) (t .bid) (f .bid), price-if-any (t .m) (t .offer) (f .offer))
 
 pub record SeriesFacts (s : Series) : Type 0 where
   pub sound : SoundSeries s

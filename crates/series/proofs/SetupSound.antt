@@ -31,7 +31,8 @@ use Rattle.series.proofs.SeriesFacts.{facts-series}
 -- "Setup of other length or values is refused": what unpacks has legal values
 pub setup-legal : (bytes : List ℕ) (x : Setup) → unpackOf setups bytes ≡ some x → legalSetup x ≡ true
 unfolding unpackOf thingOf
-setup-legal bytes x h = go (setups .claimed (fieldsIn setups bytes)) (onlyIf-some (eqb (length bytes) setupSize) (thingOf setups (fieldsIn setups bytes)) x h .1)
+setup-legal bytes x h =
+    go (setups .claimed (fieldsIn setups bytes)) (onlyIf-some (eqb (length bytes) setupSize) (thingOf setups (fieldsIn setups bytes)) x h .1)
   where
     l : List ℕ
     l = fieldsIn setups bytes

@@ -39,18 +39,18 @@ step-mpv (inl e) = rw e
 step-mpv (inr (inl e)) = rw e
 step-mpv (inr (inr e)) = rw e
 
-pub given-price : (m p : ℕ) → noneOrLegal m p ≡ true → NoneOrLegal m p
+pub if-any-price : (m p : ℕ) → noneOrLegal m p ≡ true → NoneOrLegal m p
 unfolding noneOrLegal
-given-price m p h = go (eqb p 0) refl h
+if-any-price m p h = go (eqb p 0) refl h
   where
     go : (b : Bool) → eqb p 0 ≡ b → (b || legal m p) ≡ true → NoneOrLegal m p
     go true e g = inl (eqb-true p 0 e)
     go false e g = inr (legal-price m p g)
 
-pub price-given : (m p : ℕ) → NoneOrLegal m p → noneOrLegal m p ≡ true
+pub price-if-any : (m p : ℕ) → NoneOrLegal m p → noneOrLegal m p ≡ true
 unfolding noneOrLegal
-price-given m p (inl e) = rw e
-price-given m p (inr l) = go (eqb p 0)
+price-if-any m p (inl e) = rw e
+price-if-any m p (inr l) = go (eqb p 0)
   where
     go : (b : Bool) → (b || legal m p) ≡ true
     go true = refl
@@ -77,8 +77,8 @@ module _ (t : Terms) where
           steps = leb-true (t .k) 100 (b .0);
           strike = between-both 1 topStrike (t .strike) (c .0);
           phase = leb-true (t .phase) 2 (d .0);
-          bid = given-price (t .m) (t .bid) (e .0);
-          offer = given-price (t .m) (t .offer) (f .0);
+          bid = if-any-price (t .m) (t .bid) (e .0);
+          offer = if-any-price (t .m) (t .offer) (f .0);
           underlying = leb-true (t .underlying) topUnderlying (g .0);
         },
         leb-true (t .given) lastNumber (g .1),
@@ -91,8 +91,8 @@ module _ (t : Terms) where
     le-leb (t .k) 100 (f .steps),
     both-between 1 topStrike (t .strike) (f .strike),
     le-leb (t .phase) 2 (f .phase),
-    price-given (t .m) (t .bid) (f .bid),
-    price-given (t .m) (t .offer) (f .offer),
+    price-if-any (t .m) (t .bid) (f .bid),
+    price-if-any (t .m) (t .offer) (f .offer),
     le-leb (t .underlying) topUnderlying (f .underlying),
     le-leb (t .given) lastNumber most,
   )

@@ -30,7 +30,7 @@ use Rattle.soundness_theory.proofs.SoundFacts.{is-sound}
 use Rattle.soundness.proofs.BookLaws.{unused-zero}
 use Rattle.series.specs.declared.Series.{Series}
 use Rattle.series.specs.Series.{soundSeries, soundTerms, soundPhase}
-use Rattle.series.proofs.TermsLaws.{price-given}
+use Rattle.series.proofs.TermsLaws.{price-if-any}
 use Rattle.series.proofs.SeriesFacts.{SeriesFacts, series-facts}
 use Rattle.series_buffer.specs.Header.{headers}
 use Rattle.series_buffer.specs.Entry.{entries, pricingNumber, ownDisplay}
@@ -111,9 +111,9 @@ module _ (s : Series) (sound : soundSeries s ≡ true) (places : length (s .book
             (
               omega (arith, t .phase),
               (
-                omega (arith, given-few (s .terms .bid) (price-given (s .terms .m) (s .terms .bid) (t .bid))),
+                omega (arith, given-few (s .terms .bid) (price-if-any (s .terms .m) (s .terms .bid) (t .bid))),
                 (
-                  omega (arith, given-few (s .terms .offer) (price-given (s .terms .m) (s .terms .offer) (t .offer))),
+                  omega (arith, given-few (s .terms .offer) (price-if-any (s .terms .m) (s .terms .offer) (t .offer))),
                   (
                     omega (arith, t .underlying),
                     (

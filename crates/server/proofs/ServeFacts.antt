@@ -162,7 +162,8 @@ pub setup-holds : (bytes state : List ℕ) → setUp state (unpackOf setups byte
 unfolding bookOf
 setup-holds bytes state h = by (unpackOf setups bytes) refl (eqb (length state) stateSize) refl h
   where
-    by : (u : Option Setup) → unpackOf setups bytes ≡ u → (b : Bool) → eqb (length state) stateSize ≡ b → setUp state u .refusal ≡ 0 → SetIn bytes (setUp state u)
+    by : (u : Option Setup) → unpackOf setups bytes ≡ u → (b : Bool) → eqb (length state) stateSize ≡ b → setUp state u .refusal ≡ 0
+        → SetIn bytes (setUp state u)
     by none q b l z = absurd (omega (arith, z))
     by (some s) q false l z =
         let n : _≡_ {A = ℕ} 11 0 = sym (ap (λ (c : Bool). put state s c .refusal) l) ∙ z in

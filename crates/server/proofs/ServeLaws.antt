@@ -133,7 +133,8 @@ module _ (bytes state : List ℕ) (m : Made) (is : m ≡ opened (unpackOf setups
           let put′ : stored ≡ (eqb (length state) stateSize && packsSeries (newSeries s)) = put ∙ ap (isStored state) new in
           let after′ : out ≡ cond stored (seriesBytes (newSeries s)) state =
           after ∙ ap (bufferAfter state) new ∙ ap (λ (b : Bool). cond b (seriesBytes (newSeries s)) state) (sym put′) in
-          let long : stored ≡ eqb (length state) stateSize = put′ ∙ ap (λ (b : Bool). eqb (length state) stateSize && b) fit ∙ and-true (eqb (length state) stateSize) in (
+          let long : stored ≡ eqb (length state) stateSize =
+          put′ ∙ ap (λ (b : Bool). eqb (length state) stateSize && b) fit ∙ and-true (eqb (length state) stateSize) in (
             (λ t. (λ i. record { refusal = 0; state = (after′ ∙ ap (λ (b : Bool). cond b (seriesBytes (newSeries s)) state) t) i })
                 ∙ sym
                 (ap (λ (b : Bool). cond b (record { refusal = 0; state = seriesBytes (newSeries s) }) (record { refusal = 11; state = state }))

@@ -20,10 +20,10 @@ ghost use Rattle.server.specs.Check.{isMessage, faults, checkAs, check};
 fn number_of(read: Unpacked) -> u32
     ensures { λ r. ⌜ r ≡ saidBy read .0 ⌝ }
 {
-    match read {
-        Unpacked::Message(_) => 0,
-        Unpacked::Nothing => 1,
-    }
+    let Unpacked::Message(_) = read else {
+        return 1;
+    };
+    0
 }
 
 // 0 for a message, 1 for none.

@@ -11,7 +11,7 @@ use Rattle.prices.specs.Side.{away}
 use Rattle.prices.specs.Aims.{aims}
 use Rattle.prices.specs.Rest.{marketable, restingPrices}
 use Rattle.prices.specs.Ease.{easedTo}
-use Rattle.prices.proofs.StepLaws.{given-is}
+use Rattle.prices.proofs.StepLaws.{if-any-is}
 use Rattle.lists.specs.Places.{requeue}
 use Rattle.lists.specs.Choose.{found}
 use Rattle.lists.specs.Run.{go}
@@ -23,7 +23,7 @@ use Rattle.book.specs.Entries.{display, priced}
 use Rattle.book.specs.Shape.{entriesOf}
 use Rattle.book.specs.Look.{contra, frontOf, contraIn, bestContra}
 use Rattle.book.proofs.LookLaws.{front-faces}
-use Rattle.soundness_theory.proofs.FrontLaws.{given-contra}
+use Rattle.soundness_theory.proofs.FrontLaws.{if-any-contra}
 use Rattle.telling.specs.Tell.{repriced}
 use Rattle.soundness_theory.specs.SoundMarket.{soundMarket}
 use Rattle.telling.specs.Stage.{Staged, alone}
@@ -57,8 +57,8 @@ unfolding soundMarket
 watched-bounds {k} {front} {b} w = record {
   bounds = λ s. record {
     step = and-left (mpv (k .m)) (noneOrLegal (k .m) (k .bid) && noneOrLegal (k .m) (k .offer)) (w .sound .market);
-    away = given-is (sound-for (w .sound) .0 .given s);
-    contra = rw (front-faces front (entriesOf b) (w .known) s) (given-is (given-contra s (sound-for (w .sound) .1)));
+    away = if-any-is (sound-for (w .sound) .0 .legal s);
+    contra = rw (front-faces front (entriesOf b) (w .known) s) (if-any-is (if-any-contra s (sound-for (w .sound) .1)));
   };
 }
 

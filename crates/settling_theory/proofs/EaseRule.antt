@@ -13,7 +13,7 @@ use Rattle.prices.specs.Side.{away, keen, reaches}
 use Rattle.kinds.specs.Kinds.{sliding}
 use Rattle.prices.specs.Ease.{beyond, easedTo, eases}
 use Rattle.prices.proofs.FrameLaws.{seen, seen-inj, seen-keen, reaches-false, keen-either}
-use Rattle.prices.proofs.StepLaws.{Mpv, Legal, NoneOrLegal, present}
+use Rattle.prices.proofs.StepLaws.{Mpv, Legal, LegalIfAny, present}
 use Rattle.prices.proofs.AimLaws.{unbound, faced}
 use Rattle.prices.proofs.RestLaws.{Slides, Eased}
 use Rattle.prices.proofs.EaseLaws.{Dropped, eased, uneased-eased}
@@ -52,7 +52,7 @@ module _ (k : Market) (mk : MarketFacts k) where
       → Drops k e (shownAs (e .limit) p)
   drops-as e Fixed f t = clash t refl
   drops-as e Dark f t = clash t refl
-  drops-as e (Sliding d) f t = record { able = f .able; drop = eased (e .sell) (mk .step) (mk .given (e .sell)) (f .slides) t }
+  drops-as e (Sliding d) f t = record { able = f .able; drop = eased (e .sell) (mk .step) (mk .legal (e .sell)) (f .slides) t }
 
 module _ (k : Market) (mk : MarketFacts k) {top : ℕ} where
   pub ease-drops : {l : List Entry} {i : ℕ} {e : Entry} → Sound (k .m) top l → First (easing k) l i e → Drops k e (display e)
@@ -91,7 +91,7 @@ EasedAs k s w (Sliding d) = Eased s (away k s) d w
 pub record EntryEased (k : Market) (e : Entry) : Type 0 where
   pub eased : EasedAs k (e .sell) (e .working) (e .pricing)
 
-module _ {m l a d w : ℕ} (s : Bool) (v : Mpv m) (ga : NoneOrLegal m a) (sl : Slides m s l d w) (ez : Eased s a d w) where
+module _ {m l a d w : ℕ} (s : Bool) (v : Mpv m) (ga : LegalIfAny m a) (sl : Slides m s l d w) (ez : Eased s a d w) where
   -- one that works beyond the away price is shown where it works
   stays : beyond s a w ≡ true → w ≡ keen s d a
   unfolding faced
@@ -123,7 +123,7 @@ module _ (k : Market) (mk : MarketFacts k) {top : ℕ} (e : Entry) (f : EntryFac
       by : (p : Pricing) → PricedAs (k .m) (e .kind) (e .sell) (e .limit) (e .working) p → easesAs k e p ≡ false → EasedAs k (e .sell) (e .working) p
       by Fixed g t = tt
       by Dark g t = tt
-      by (Sliding d) g t = uneased-eased (e .sell) (mk .step) (mk .given (e .sell)) (g .slides) t
+      by (Sliding d) g t = uneased-eased (e .sell) (mk .step) (mk .legal (e .sell)) (g .slides) t
 
   pub eased-uneased : EntryEased k e → easing k e ≡ false
   eased-uneased z = by (e .pricing) (f .prices) (z .eased)
@@ -131,7 +131,7 @@ module _ (k : Market) (mk : MarketFacts k) {top : ℕ} (e : Entry) (f : EntryFac
       by : (p : Pricing) → PricedAs (k .m) (e .kind) (e .sell) (e .limit) (e .working) p → EasedAs k (e .sell) (e .working) p → easesAs k e p ≡ false
       by Fixed g t = refl
       by Dark g t = refl
-      by (Sliding d) g t = eased-is-uneased (e .sell) (mk .step) (mk .given (e .sell)) (g .slides) t
+      by (Sliding d) g t = eased-is-uneased (e .sell) (mk .step) (mk .legal (e .sell)) (g .slides) t
 
 pub all-eased : {k : Market} {top : ℕ} {l : List Entry} → MarketFacts k → Sound (k .m) top l → Nobody (easing k) l → All (EntryEased k) l
 all-eased {k} {top} {l} mk so n =

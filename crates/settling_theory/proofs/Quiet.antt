@@ -12,7 +12,7 @@ use Rattle.prices.specs.declared.Market.{Market}
 use Rattle.prices.specs.Aims.{aims}
 use Rattle.prices.specs.Rest.{marketable, restingPrices, atRest, stirsAt}
 use Rattle.prices.proofs.FrameLaws.{seen}
-use Rattle.prices.proofs.StepLaws.{Mpv, NoneOrLegal}
+use Rattle.prices.proofs.StepLaws.{Mpv, LegalIfAny}
 use Rattle.prices.proofs.AimLaws.{aims-away}
 use Rattle.prices.proofs.RestLaws.{Slides, Eased, moved-display, moved-working}
 use Rattle.prices.proofs.QuoteLaws.{aim-aimed}
@@ -27,7 +27,7 @@ use Rattle.book.specs.declared.Pricing.{Pricing}
 use Rattle.book.specs.declared.Pricing.the-variants.{Fixed, Dark, Sliding}
 use Rattle.book.specs.Look.{contra}
 use Rattle.soundness_theory.proofs.Facts.{PricedAs, Sound}
-use Rattle.soundness_theory.proofs.FrontLaws.{given-contra}
+use Rattle.soundness_theory.proofs.FrontLaws.{if-any-contra}
 use Rattle.soundness_theory.proofs.KeepLaws.{here-facts}
 use Rattle.settling_theory.specs.Settle.{easesAs, easing, stirringAs, stirring, nextEase, easings, nextStir, stirrings, eased, stirred, settled, anyStirs}
 use Rattle.settling_theory.proofs.Shapes.{nobody-eases, nobody-stirs}
@@ -35,7 +35,7 @@ use Rattle.soundness_theory.proofs.MarketFacts.{MarketFacts}
 use Rattle.settling_theory.proofs.EaseRule.{eased-is-uneased}
 
 -- a quote at its resting prices is eased
-rests-eased : {m l a c d w : ℕ} (kind : ℕ) (s : Bool) → Mpv m → NoneOrLegal m a → NoneOrLegal m c → Slides m s l d w → stirsAt m kind s l a c d w ≡ false
+rests-eased : {m l a c d w : ℕ} (kind : ℕ) (s : Bool) → Mpv m → LegalIfAny m a → LegalIfAny m c → Slides m s l d w → stirsAt m kind s l a c d w ≡ false
     → Eased s a d w
 unfolding stirsAt atRest
 rests-eased {m} {l} {a} {c} {d} {w} kind s v ga gc sl h = record {
@@ -66,8 +66,8 @@ module _ {k : Market} {top : ℕ} {l : List Entry} (mk : MarketFacts k) (so : So
       by Fixed f t = refl
       by Dark f t = refl
       by (Sliding d) f t =
-          eased-is-uneased (e .sell) (mk .step) (mk .given (e .sell)) (f .slides)
-          (rests-eased (e .kind) (e .sell) (mk .step) (mk .given (e .sell)) (given-contra (e .sell) so) (f .slides) t)
+          eased-is-uneased (e .sell) (mk .step) (mk .legal (e .sell)) (f .slides)
+          (rests-eased (e .kind) (e .sell) (mk .step) (mk .legal (e .sell)) (if-any-contra (e .sell) so) (f .slides) t)
 
   pub nobody-eased : Nobody (stirring k l) l → Nobody (easing k) l
   nobody-eased n = record { nobody = λ i e h. unstirred-uneased i e h (n .nobody i e h) }

@@ -29,7 +29,7 @@ use Rattle.book.specs.Change.{hitBoth}
 use Rattle.book.specs.Look.{contra}
 use Rattle.book.proofs.LookLaws.{BestContra, First}
 use Rattle.soundness_theory.proofs.Facts.{PricedAs, Sound}
-use Rattle.soundness_theory.proofs.FrontLaws.{front-is, given-contra, front-requeue}
+use Rattle.soundness_theory.proofs.FrontLaws.{front-is, if-any-contra, front-requeue}
 use Rattle.soundness_theory.proofs.TradeLaws.{all-both, trade-shorter}
 use Rattle.soundness_theory.proofs.KeepLaws.{here-facts, here-short, never-facing, sound-both, sound-repriced}
 use Rattle.settling_theory.specs.Settle.{stirringAs, stirring, nextStir, triangle, stirrings}
@@ -70,20 +70,20 @@ trade-less {l = l} {i = i} {j = j} {e = e} {y = y} c b = trade-shorter i j l e y
 
 -- ---- a quote that stirs ----
 
-pub record Restless (k : Market) (e : Entry) (d : ℕ) : Type 0 where
+pub record Stirs (k : Market) (e : Entry) (d : ℕ) : Type 0 where
   pub able : sliding (e .kind) ≡ true
   pub slides : Slides (k .m) (e .sell) (e .limit) d (e .working)
   pub eased : Eased (e .sell) (away k (e .sell)) d (e .working)
 
 module _ (k : Market) where
   stirring-as : (c : ℕ) (e : Entry) (p : Pricing) → PricedAs (k .m) (e .kind) (e .sell) (e .limit) (e .working) p
-      → EasedAs k (e .sell) (e .working) p → stirringAs k c e p ≡ true → Restless k e (shownAs (e .limit) p)
+      → EasedAs k (e .sell) (e .working) p → stirringAs k c e p ≡ true → Stirs k e (shownAs (e .limit) p)
   stirring-as c e Fixed f z t = clash t refl
   stirring-as c e Dark f z t = clash t refl
   stirring-as c e (Sliding d) f z t = record { able = f .able; slides = f .slides; eased = z }
 
 module _ (k : Market) (mk : MarketFacts k) {top : ℕ} where
-  stirs : {l : List Entry} {i : ℕ} {e : Entry} → Easy k top l → First (stirring k l) l i e → Restless k e (display e)
+  stirs : {l : List Entry} {i : ℕ} {e : Entry} → Easy k top l → First (stirring k l) l i e → Stirs k e (display e)
   stirs {l = l} {i = i} {e = e} ea c =
       stirring-as k (contra (e .sell) l) e (e .pricing) (here-facts (ea .sound) i e (c .there) .prices)
       (all-at (EntryEased k) l i e (ea .eased) (c .there) .eased) (c .passes)
@@ -92,8 +92,8 @@ module _ (k : Market) (mk : MarketFacts k) {top : ℕ} where
   pub stir-moves : {l : List Entry} {i : ℕ} {e : Entry} → Easy k top l → First (stirring k l) l i e → marketableIn k l e ≡ false
       → Moved (k .m) (e .kind) (e .sell) (e .limit) (away k (e .sell)) (contra (e .sell) l) (e .working) (restPrices k l e)
   stir-moves {i = i} {e = e} ea c h =
-      let q : Restless k e (display e) = stirs ea c in
-      moves (e .kind) (e .sell) (mk .step) (mk .given (e .sell)) (given-contra (e .sell) (ea .sound)) (q .slides) (q .eased)
+      let q : Stirs k e (display e) = stirs ea c in
+      moves (e .kind) (e .sell) (mk .step) (mk .legal (e .sell)) (if-any-contra (e .sell) (ea .sound)) (q .slides) (q .eased)
       (here-short (ea .sound) i e (c .there)) h
 
   -- where every side faces what it faced or something nearer, who did not stir does not stir
@@ -109,7 +109,7 @@ module _ (k : Market) (mk : MarketFacts k) {top : ℕ} where
           by Fixed f z t = refl
           by Dark f z t = refl
           by (Sliding d) f z t =
-              unstirred-stays (e .kind) (e .sell) (mk .step) (mk .given (e .sell)) (given-contra (e .sell) (a .sound)) (given-contra (e .sell) (b .sound))
+              unstirred-stays (e .kind) (e .sell) (mk .step) (mk .legal (e .sell)) (if-any-contra (e .sell) (a .sound)) (if-any-contra (e .sell) (b .sound))
               (f .slides) z (nearer (e .sell)) (here-short (b .sound) i e at) t
 
   -- ---- a step ----

@@ -19,7 +19,7 @@ use Rattle.packing.specs.declared.report.Report.{Report}
 use Rattle.book.specs.declared.Entry.{Entry}
 use Rattle.book.specs.Look.{contra}
 use Rattle.soundness_theory.proofs.Facts.{Sound}
-use Rattle.soundness_theory.proofs.FrontLaws.{given-contra, best-front}
+use Rattle.soundness_theory.proofs.FrontLaws.{if-any-contra, best-front}
 use Rattle.soundness_theory.proofs.KeepLaws.{here-facts}
 use Rattle.settling_theory.specs.Settle.{aimsIn}
 use Rattle.settling_theory.proofs.Shapes.{EaseStep, eased-at, StirStep, traded-at, moved-at}
@@ -45,7 +45,7 @@ stir-within {k} {l = l} mk so (traded-at {i = i} {j = j} {e = e} {y = y} c m b) 
       arith,
       best-front so b,
       aim-reaches (e .kind) (e .sell) (contra (e .sell) l) (aimsIn k l e) m,
-      aims-away (e .sell) (mk .step) (mk .given (e .sell)) (aimsIn k l e)
-          (aimed (e .kind) (e .sell) (mk .step) (here-facts so i e (c .there) .limit) (mk .given (e .sell)) (given-contra (e .sell) so)),
+      aims-away (e .sell) (mk .step) (mk .legal (e .sell)) (aimsIn k l e)
+          (aimed (e .kind) (e .sell) (mk .step) (here-facts so i e (c .there) .limit) (mk .legal (e .sell)) (if-any-contra (e .sell) so)),
     ))
 stir-within mk so (moved-at c m) = tt

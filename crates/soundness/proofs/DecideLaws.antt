@@ -26,7 +26,7 @@ use Rattle.book.specs.declared.Pricing.the-variants.{Fixed, Dark, Sliding}
 use Rattle.book.specs.Entries.{quote}
 use Rattle.soundness_theory.specs.Sound.{between, pricedAs, soundEntry, distinct, oneQuote, uncrossed, uncrossedAs, soundPair}
 use Rattle.soundness_theory.proofs.SoundFacts.{between-both, both-between}
-use Rattle.soundness.specs.SoundBook.{LegalPrice, SoundSlide, Quote, Slider, InTheDark, AtLimit}
+use Rattle.soundness.specs.SoundBook.{LegalPrice, SoundSlide, Quote, SlidingKind, DarkKind, FixedKind}
 use Rattle.soundness.specs.SoundBook.{Numbered, LegalFigures, SoundPrices, Distinct, OneQuote, Uncrossed}
 use Rattle.soundness.proofs.ClauseLaws.{clauses-of, of-clauses}
 
@@ -73,10 +73,10 @@ module _ (m l d w : ℕ) where
 -- ---- kinds ----
 
 -- the three sorts of kinds: there is no fourth
-sorts : (k : ℕ) → AtLimit k ⊎ (Slider k ⊎ InTheDark k)
+sorts : (k : ℕ) → FixedKind k ⊎ (SlidingKind k ⊎ DarkKind k)
 sorts k = by (sliding k) refl (dark k) refl
   where
-    by : (a : Bool) → sliding k ≡ a → (b : Bool) → dark k ≡ b → AtLimit k ⊎ (Slider k ⊎ InTheDark k)
+    by : (a : Bool) → sliding k ≡ a → (b : Bool) → dark k ≡ b → FixedKind k ⊎ (SlidingKind k ⊎ DarkKind k)
     by true p b q = inr (inl p)
     by false p true q = inr (inr q)
     by false p false q = inl (p, q)
@@ -84,40 +84,40 @@ sorts k = by (sliding k) refl (dark k) refl
 -- ---- one entry ----
 
 module _ (m kind : ℕ) (s : Bool) (limit w : ℕ) where
-  at-limit : (p : Pricing) → pricedAs m kind s limit w p ≡ true → AtLimit kind → (p ≡ Fixed) × (w ≡ limit)
+  at-limit : (p : Pricing) → pricedAs m kind s limit w p ≡ true → FixedKind kind → (p ≡ Fixed) × (w ≡ limit)
   unfolding pricedAs
   at-limit Fixed h k = (refl, eqb-true w limit (and-right (not (sliding kind) && not (dark kind)) (eqb w limit) h))
   at-limit Dark h k = clash (and-left (dark kind) (eqb w limit) h) (k .1)
   at-limit (Sliding d) h k = clash (and-left (sliding kind) (slides m s limit d w) h) (k .0)
 
   -- what is fixed neither slides nor is dark
-  fixed-sort : pricedAs m kind s limit w Fixed ≡ true → AtLimit kind
+  fixed-sort : pricedAs m kind s limit w Fixed ≡ true → FixedKind kind
   unfolding pricedAs
   fixed-sort h =
       let k = and-left (not (sliding kind) && not (dark kind)) (eqb w limit) h in
       (not-true (sliding kind) (and-left (not (sliding kind)) (not (dark kind)) k), not-true (dark kind) (and-right (not (sliding kind)) (not (dark kind)) k))
 
-  in-the-dark : (p : Pricing) → pricedAs m kind s limit w p ≡ true → InTheDark kind → (p ≡ Dark) × (w ≡ limit)
+  in-the-dark : (p : Pricing) → pricedAs m kind s limit w p ≡ true → DarkKind kind → (p ≡ Dark) × (w ≡ limit)
   unfolding pricedAs
   in-the-dark Fixed h k = clash k (fixed-sort h .1)
   in-the-dark Dark h k = (refl, eqb-true w limit (and-right (dark kind) (eqb w limit) h))
   in-the-dark (Sliding d) h k = clash (and-left (sliding kind) (slides m s limit d w) h) (dark-rigid kind k)
 
-  on-the-slide : (p : Pricing) → pricedAs m kind s limit w p ≡ true → Slider kind → (d : ℕ) × ((p ≡ Sliding d) × SoundSlide m s limit d w)
+  on-the-slide : (p : Pricing) → pricedAs m kind s limit w p ≡ true → SlidingKind kind → (d : ℕ) × ((p ≡ Sliding d) × SoundSlide m s limit d w)
   unfolding pricedAs
   on-the-slide Fixed h k = clash k (fixed-sort h .0)
   on-the-slide Dark h k = clash k (dark-rigid kind (and-left (dark kind) (eqb w limit) h))
   on-the-slide (Sliding d) h k = (d, (refl, slide-facts m limit d w s (and-right (sliding kind) (slides m s limit d w) h)))
 
-  limit-priced : AtLimit kind → w ≡ limit → pricedAs m kind s limit w Fixed ≡ true
+  limit-priced : FixedKind kind → w ≡ limit → pricedAs m kind s limit w Fixed ≡ true
   unfolding pricedAs
   limit-priced k e = rw (k .0, k .1) (eq-eqb w limit e)
 
-  dark-priced : InTheDark kind → w ≡ limit → pricedAs m kind s limit w Dark ≡ true
+  dark-priced : DarkKind kind → w ≡ limit → pricedAs m kind s limit w Dark ≡ true
   unfolding pricedAs
   dark-priced k e = rw k (eq-eqb w limit e)
 
-  slide-priced : (d : ℕ) → Slider kind → SoundSlide m s limit d w → pricedAs m kind s limit w (Sliding d) ≡ true
+  slide-priced : (d : ℕ) → SlidingKind kind → SoundSlide m s limit d w → pricedAs m kind s limit w (Sliding d) ≡ true
   unfolding pricedAs
   slide-priced d k f = and-both (sliding kind) (slides m s limit d w) k (facts-slide m limit d w s f)
 
@@ -165,7 +165,7 @@ facts-entry m given e f = of-clauses m given e (record {
     quoted false k = refl
     quoted true k = le-leb (e .party) 16 (f .figures .maker k)
 
-    by : AtLimit (e .kind) ⊎ (Slider (e .kind) ⊎ InTheDark (e .kind)) → pricedAs m (e .kind) (e .sell) (e .limit) (e .working) (e .pricing) ≡ true
+    by : FixedKind (e .kind) ⊎ (SlidingKind (e .kind) ⊎ DarkKind (e .kind)) → pricedAs m (e .kind) (e .sell) (e .limit) (e .working) (e .pricing) ≡ true
     by (inl k) = rw (f .prices .plain k .0) (limit-priced m (e .kind) (e .sell) (e .limit) (e .working) k (f .prices .plain k .1))
     by (inr (inl k)) =
         let z = f .prices .slides k in

@@ -41,14 +41,14 @@ pub record SoundSlide (m : ℕ) (s : Bool) (limit display working : ℕ) : Type 
 abbrev pub Quote : Entry → Type 0
 Quote e = quotes (e .kind) ≡ true
 
-abbrev pub Slider : ℕ → Type 0
-Slider kind = sliding kind ≡ true
+abbrev pub SlidingKind : ℕ → Type 0
+SlidingKind kind = sliding kind ≡ true
 
-abbrev pub InTheDark : ℕ → Type 0
-InTheDark kind = dark kind ≡ true
+abbrev pub DarkKind : ℕ → Type 0
+DarkKind kind = dark kind ≡ true
 
-abbrev pub AtLimit : ℕ → Type 0
-AtLimit kind = (sliding kind ≡ false) × (dark kind ≡ false)
+abbrev pub FixedKind : ℕ → Type 0
+FixedKind kind = (sliding kind ≡ false) × (dark kind ≡ false)
 
 -- ---- what is asked of each entry that rests ----
 
@@ -67,11 +67,11 @@ pub record LegalFigures (m : ℕ) (e : Entry) : Type 0 where
 pub record SoundPrices (m : ℕ) (e : Entry) : Type 0 where
   pub kind : enters (e .kind) ≡ true
   -- "plain, MMLO and displayed orders display and work at the limit"
-  pub plain : AtLimit (e .kind) → (e .pricing ≡ Fixed) × (e .working ≡ e .limit)
+  pub plain : FixedKind (e .kind) → (e .pricing ≡ Fixed) × (e .working ≡ e .limit)
   -- "dark ones work at the limit"
-  pub dark : InTheDark (e .kind) → (e .pricing ≡ Dark) × (e .working ≡ e .limit)
+  pub dark : DarkKind (e .kind) → (e .pricing ≡ Dark) × (e .working ≡ e .limit)
   -- "for MMALO and MMRP, .."
-  pub slides : Slider (e .kind) → (d : ℕ) × ((e .pricing ≡ Sliding d) × SoundSlide m (e .sell) (e .limit) d (e .working))
+  pub slides : SlidingKind (e .kind) → (d : ℕ) × ((e .pricing ≡ Sliding d) × SoundSlide m (e .sell) (e .limit) d (e .working))
 
 -- ---- what is asked of each two ----
 

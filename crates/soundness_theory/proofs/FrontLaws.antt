@@ -10,7 +10,7 @@ use native.Mathlib.Omega.{arith}
 use lib.Dec.{eqb}
 use borrow.Author.Tests.{eqb-true}
 use Rattle.prices.proofs.FrameLaws.{seen, seen-high}
-use Rattle.prices.proofs.StepLaws.{Legal, NoneOrLegal, given-none, given-legal, present}
+use Rattle.prices.proofs.StepLaws.{Legal, LegalIfAny, if-any-none, given-legal, present}
 use Rattle.prices.proofs.AimLaws.{unbound, faced}
 use Rattle.lists.specs.Places.{At, without, requeue}
 use Rattle.lists.specs.Tests.{All}
@@ -26,13 +26,13 @@ use Rattle.soundness_theory.proofs.Facts.{EntryFacts, Clear, Sound}
 -- ---- the nearest price, of whatever kind ----
 
 -- the nearest of prices that are none or legal is one
-pub given-nearest : {m : ℕ} (price : Entry → ℕ) (s : Bool) (q : ℕ) (l : List Entry) → NoneOrLegal m q → All (λ (e : Entry). NoneOrLegal m (price e)) l
-    → NoneOrLegal m (nearest price s q l)
-given-nearest {m} price s q l g a = record { legal = λ e. by e (nearest-tells price s q l .some (positive (nearest price s q l) e)) }
+pub if-any-nearest : {m : ℕ} (price : Entry → ℕ) (s : Bool) (q : ℕ) (l : List Entry) → LegalIfAny m q → All (λ (e : Entry). LegalIfAny m (price e)) l
+    → LegalIfAny m (nearest price s q l)
+if-any-nearest {m} price s q l g a = record { legal = λ e. by e (nearest-tells price s q l .some (positive (nearest price s q l) e)) }
   where
     by : eqb (nearest price s q l) 0 ≡ false → OnOffer price s q l (nearest price s q l) → Legal m (nearest price s q l)
-    by e (inl h) = subst (NoneOrLegal m) (h .0) g .legal e
-    by e (inr o) = subst (NoneOrLegal m) (o .asks) (all-at (λ (z : Entry). NoneOrLegal m (price z)) l (o .place) (o .entry) a (o .there)) .legal e
+    by e (inl h) = subst (LegalIfAny m) (h .0) g .legal e
+    by e (inr o) = subst (LegalIfAny m) (o .asks) (all-at (λ (z : Entry). LegalIfAny m (price z)) l (o .place) (o .entry) a (o .there)) .legal e
 
 -- ---- the nearest working price, with no scan in it ----
 
@@ -109,8 +109,8 @@ module _ {m top : ℕ} {l : List Entry} (s : Bool) (so : Sound m top l) where
                 (λ k z h f. seen-good s (contra s l) (z .working) (contra-price-tells s l .best (z .working) (offers k z h f)))),
           )
 
-  pub given-contra : NoneOrLegal m (contra s l)
-  given-contra = given-nearest working s 0 l given-none (all-map (λ e f. given-legal (f .works)) l (so .entries))
+  pub if-any-contra : LegalIfAny m (contra s l)
+  if-any-contra = if-any-nearest working s 0 l if-any-none (all-map (λ e f. given-legal (f .works)) l (so .entries))
 
 -- nobody faces the side: there is no C
 pub no-contra : (s : Bool) (l : List Entry) → All (λ (e : Entry). against s e ≡ false) l → contra s l ≡ 0

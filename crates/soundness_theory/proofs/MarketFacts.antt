@@ -7,7 +7,7 @@ use mathlib.Core.List.{List}
 use Rattle.prices.specs.declared.Market.{Market}
 use Rattle.prices.specs.Step.{mpv, noneOrLegal}
 use Rattle.prices.specs.Side.{away}
-use Rattle.prices.proofs.StepLaws.{Mpv, NoneOrLegal, is-mpv, is-none-or-legal}
+use Rattle.prices.proofs.StepLaws.{Mpv, LegalIfAny, is-mpv, is-none-or-legal}
 use Rattle.lists.proofs.Bools.{and-left, and-right}
 use Rattle.book.specs.declared.Entry.{Entry}
 use Rattle.soundness_theory.specs.SoundMarket.{soundMarket, SoundFor}
@@ -16,16 +16,16 @@ use Rattle.soundness_theory.proofs.SoundFacts.{is-sound}
 
 pub record MarketFacts (k : Market) : Type 0 where
   pub step : Mpv (k .m)
-  pub given : (s : Bool) → NoneOrLegal (k .m) (away k s)
+  pub legal : (s : Bool) → LegalIfAny (k .m) (away k s)
 
 pub market-facts : (k : Market) → soundMarket k ≡ true → MarketFacts k
 unfolding soundMarket
-market-facts k h = record { step = is-mpv (k .m) (and-left (mpv (k .m)) (noneOrLegal (k .m) (k .bid) && noneOrLegal (k .m) (k .offer)) h); given = side }
+market-facts k h = record { step = is-mpv (k .m) (and-left (mpv (k .m)) (noneOrLegal (k .m) (k .bid) && noneOrLegal (k .m) (k .offer)) h); legal = side }
   where
     both : (noneOrLegal (k .m) (k .bid) && noneOrLegal (k .m) (k .offer)) ≡ true
     both = and-right (mpv (k .m)) (noneOrLegal (k .m) (k .bid) && noneOrLegal (k .m) (k .offer)) h
 
-    side : (s : Bool) → NoneOrLegal (k .m) (away k s)
+    side : (s : Bool) → LegalIfAny (k .m) (away k s)
     side false = is-none-or-legal (k .m) (k .offer) (and-right (noneOrLegal (k .m) (k .bid)) (noneOrLegal (k .m) (k .offer)) both)
     side true = is-none-or-legal (k .m) (k .bid) (and-left (noneOrLegal (k .m) (k .bid)) (noneOrLegal (k .m) (k .offer)) both)
 

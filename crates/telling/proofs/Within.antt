@@ -32,4 +32,4 @@ pub within-away : {k : Market} → MarketFacts k → (s : Bool) (p : ℕ) → p 
 unfolding faced
 within-away {k} mk s p low h e =
     let g : seen s p ≤ seen s (away k s) = rw e at h in
-    reached s (away k s) p (omega (arith, mk .given s .legal e .high)) low g
+    reached s (away k s) p (omega (arith, mk .legal s .legal e .high)) low g

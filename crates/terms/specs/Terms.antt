@@ -1,4 +1,4 @@
--- The series' numbers: how high two of them may be, and what the rules read off them.
+-- The series' numbers: how high the underlying price may be, and what the rules read off them.
 -- Assumes nothing.
 use Prim.Native.Nat.{ℕ}
 use Rattle.prices.specs.declared.Market.{Market}

@@ -1,5 +1,5 @@
-use Rattle.prices.proofs.AimLaws.{given-minded}
-use Rattle.prices.proofs.StepLaws.{is-none-or-legal, given-is}
+use Rattle.prices.proofs.AimLaws.{if-any-minded}
+use Rattle.prices.proofs.StepLaws.{is-none-or-legal, if-any-is}
 use Rattle.prices.specs.Aims.{aimDisplay, aimWorking}
 use borrow.Author.Needs.{needs}
 use Rattle.prices.proofs.aims.aims_of.Statement.{statement}
@@ -15,7 +15,7 @@ held-short-requires-2 : tie.Need-held-short-requires-2
 held-short-requires-2 c κs =
     let at-contra-minded : tie.After-contra-minded = search in
     let start : tie.Start = search in
-    (start .pre .step, rw (at-contra-minded .contra-minded .ensures) (given-is (given-minded _ (is-none-or-legal _ _ (start .pre .contra)))))
+    (start .pre .step, rw (at-contra-minded .contra-minded .ensures) (if-any-is (if-any-minded _ (is-none-or-legal _ _ (start .pre .contra)))))
 
 held-to-requires : tie.Need-held-to-requires
 held-to-requires c κs = search needs
@@ -24,7 +24,7 @@ held-short-requires-3 : tie.Need-held-short-requires-3
 held-short-requires-3 c κs =
     let at-contra-minded : tie.After-contra-minded = search in
     let start : tie.Start = search in
-    (start .pre .step, rw (at-contra-minded .contra-minded .ensures) (given-is (given-minded _ (is-none-or-legal _ _ (start .pre .contra)))))
+    (start .pre .step, rw (at-contra-minded .contra-minded .ensures) (if-any-is (if-any-minded _ (is-none-or-legal _ _ (start .pre .contra)))))
 
 returns : tie.Need-returns
 unfolding aimDisplay aimWorking
