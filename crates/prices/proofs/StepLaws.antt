@@ -69,6 +69,10 @@ pub given-legal : {m p : ℕ} → Legal m p → LegalIfAny m p
 given-legal a = record { legal = λ _. a }
 
 -- multiples of each MPV by constant divisors
+pub grid-cent : {m : ℕ} (p : ℕ) → m ≡ 1 → true ≡ onGrid m p
+unfolding onGrid
+grid-cent p e = rw e (sym (eq-eqb (p % 1) 0 (omega arith)))
+
 pub grid-fast : {m : ℕ} → Mpv m → (p : ℕ) → ((not (eqb m 5) || eqb (p % 5) 0) && (not (eqb m 10) || eqb (p % 10) 0)) ≡ onGrid m p
 unfolding onGrid
 grid-fast cent p = sym (eq-eqb (p % 1) 0 (omega arith))
