@@ -27,9 +27,9 @@ abbrev pub isNothing : Option Event → Bool
 isNothing none = true
 isNothing (some e) = false
 
-abbrev pub asked : Option Event → (Ask → Bool) → Bool
-asked none test = false
-asked (some e) test = test (askOf e)
+abbrev pub putTo : Option Event → (Ask → Bool) → Bool
+putTo none test = false
+putTo (some e) test = test (askOf e)
 
 -- DOCUMENT 01'S TABLE, in its order: 10, 11, 1, 2, 3, 4, 5, 6, 7, 9, 8
 abbrev pub table : Series → Option Event → List ℕ → List (ℕ × Bool)
@@ -41,21 +41,21 @@ table s event room =
     -- "length not 11, unknown kind, a nonzero unused bit or field"
     ∷ (1, isNothing event)
     -- "party outside 1-99; kinds 1-4, 8, 12: outside 1-16"
-    ∷ (2, asked event badParty)
+    ∷ (2, putTo event badParty)
     -- "a price out of range or, but for the underlying, off the M grid (away: if not 0)"
-    ∷ (3, asked event (badPrice (s .terms .m)))
+    ∷ (3, putTo event (badPrice (s .terms .m)))
     -- "quantity out of range, or phase above 2"
-    ∷ (4, asked event badQuantity)
+    ∷ (4, putTo event badQuantity)
     -- "kinds 1-6, series not open"
-    ∷ (5, asked event (notOpen (s .terms .phase)))
+    ∷ (5, putTo event (notOpen (s .terms .phase)))
     -- "kinds 1-4, maker blocked"
-    ∷ (6, asked event (isBlocked (s .blocked)))
+    ∷ (6, putTo event (isBlocked (s .blocked)))
     -- "kinds 1-6, 64 entries rest, not counting the quote this one replaces"
-    ∷ (7, asked event (isFull (entriesOf (s .book))))
+    ∷ (7, putTo event (isFull (entriesOf (s .book))))
     -- "kinds 1-6, entry 1,000,000 has been given"
-    ∷ (9, asked event (isSpent (s .terms .given)))
+    ∷ (9, putTo event (isSpent (s .terms .given)))
     -- "kinds 7, 8: no such entry of that party, or no such quote"
-    ∷ (8, asked event (isMissing (entriesOf (s .book))))
+    ∷ (8, putTo event (isMissing (entriesOf (s .book))))
     ∷ []
 
 -- ---- the first that holds ----

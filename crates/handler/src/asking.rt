@@ -7,12 +7,12 @@ use packing::message::Event;
 ghost use mathlib.Core.Path.{_≡_};
 ghost use Prim.Native.Nat.{_≤_};
 ghost use Rattle.book.specs.Entries.{lastNumber};
-ghost use Rattle.handler.specs.Asked.{entering, askOf};
+ghost use Rattle.handler.specs.Asked.{askToEnter, askOf};
 ghost use Rattle.handler.specs.Accept.{comer};
 
 // Kinds 1 to 6.
 fn ask_to_enter(kind: u32, t: Entering) -> Ask
-    ensures { λ r. ⌜ r ≡ entering kind t ⌝ }
+    ensures { λ r. ⌜ r ≡ askToEnter kind t ⌝ }
 {
     Ask {
         kind,

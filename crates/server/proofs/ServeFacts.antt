@@ -12,11 +12,11 @@ use borrow.Author.Tests.{le-ltb}
 use Rattle.lists.proofs.Bools.{and-left}
 use Rattle.bits.specs.Fields.{Fit, Bytes}
 use Rattle.packing.specs.declared.message.Event.{Event}
-use Rattle.packing.specs.Codec.{bit, onlyIf, unpackOf}
+use Rattle.packing.specs.Codec.{bit, unpackOf}
 use Rattle.packing.specs.Message.{messages}
 use Rattle.packing.specs.declared.setup.Setup.{Setup}
 use Rattle.packing.specs.Setup.{setups}
-use Rattle.packing.proofs.CodecLaws.{packs-fit}
+use Rattle.packing.proofs.CodecLaws.{onlyIf-some, packs-fit}
 use Rattle.packing.specs.Room.{roomSize}
 use Rattle.book.proofs.ShapeLaws.{book-well-formed}
 use Rattle.book.specs.Shape.{entriesOf, bookOf}
@@ -111,10 +111,6 @@ pub record AcceptedIn (state message : List ℕ) (x : Served) : Type 0 where
   pub holds : unpackSeries (x .state) ≡ some (seriesAfter before (askOf event))
   pub sound : soundSeries (seriesAfter before (askOf event)) ≡ true
 
-only : (b : Bool) (l s : List ℕ) → onlyIf b (some l) ≡ some s → b ≡ true
-only true l s h = refl
-only false l s h = absurd (let z : _≡_ {A = ℕ} 0 1 = cc in omega arith)
-
 -- AN ACCEPTED MESSAGE LEAVES THE SERIES AFTERWARDS IN THE BUFFER, packed, and that series is sound
 pub accepted-holds : (state message room : List ℕ) → Bytes state → serve state message room .refusal ≡ 0 → AcceptedIn state message (serve state message room)
 unfolding serve serveAs packSeries handled
@@ -130,7 +126,7 @@ accepted-holds state message room b h = by (ltb (length room) roomSize) (unpackS
         let a : Ask = askOf (way .event) in
         let ok = accepts s (way .event) (way .sound) (way .passes) in
         let is = handled-accepted s message room (way .space) (way .sound) (way .event) (way .read) (way .passes) in
-        let fit = only (packsSeries s) (seriesBytes s) state (series-pack state s b q) in
+        let fit = onlyIf-some (packsSeries s) (some (seriesBytes s)) state (series-pack state s b q) .0 in
         let packed : packSeries (seriesAfter s a) ≡ some (seriesBytes (seriesAfter s a)) =
         sound-state (seriesAfter s a) (after-sound s a ok) (book-well-formed _ (done-part s a ok .size) .places) (makers-after s a ∙ packs-makers s fit) in
         let there : holding state (packSeries (handled s message room .answer .series)) ≡ seriesBytes (seriesAfter s a) =
