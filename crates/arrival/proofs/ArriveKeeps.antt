@@ -1,6 +1,7 @@
 -- THE THEOREM OF ARRIVAL. What the handler has seen to before a quote or an order arrives (specs/Asks) is enough for all of the following: the entries that
 -- rest afterwards are sound, of one more number given; they are at most 64; every report's fields fit; and there are at most three reports more than entries
--- rested. Assumes nothing.
+-- rested.
+-- Assumes nothing.
 use Prim.Native.Nat.{ℕ, zero, suc, _+_, _≤_, _<_}
 use mathlib.Core.Path.{_≡_, refl, sym}
 use mathlib.Core.Bool.{Bool, true, false, cond, not}

@@ -1,5 +1,6 @@
 -- "It never trades above A (a sell never below the away bid)", for trades on arrival. Of settling: crate settling_theory, Within; of a whole message:
--- handler, ForTheClass. Assumes nothing.
+-- handler, ForTheClass.
+-- Assumes nothing.
 use Prim.Native.Nat.{ℕ, min, max}
 use mathlib.Core.Path.{_≡_}
 use mathlib.Core.Bool.{Bool, true, false}

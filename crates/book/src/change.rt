@@ -91,7 +91,7 @@ pub fn traded(b: Book, i: usize, j: usize, quantity: u32) -> Book
     taken(c, j, quantity)
 }
 
-// What two of these quantities have in common.
+// The lesser of two quantities: what both can trade.
 pub fn lesser(a: u32, b: u32) -> u32
     ensures { λ r. ⌜ r ≡ min a b ⌝ }
 {

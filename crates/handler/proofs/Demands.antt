@@ -1,6 +1,7 @@
 -- WHAT AN ACCEPTED MESSAGE GIVES, said of `handled` for every series, message and room: its reports stand at the front of the room and nowhere else, and are
 -- read back from there; they are at most 2,280; settling took at most N(N+5)/2 steps, with one report each, and left nothing to do; and what is answered in a
--- run. Assumes nothing.
+-- run.
+-- Assumes nothing.
 use Prim.Native.Nat.{ℕ, _+_, _*_, _≤_, _<_}
 use mathlib.Core.Path.{_≡_, refl, sym, subst, ap, _∙_}
 use mathlib.Core.Bool.{Bool, true, false, cond}

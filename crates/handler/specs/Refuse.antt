@@ -1,5 +1,6 @@
 -- The refusals that an event can meet, each test by document 01's words, and their order. "Tests on party and the like apply only to kinds that carry the
--- field." Assumes nothing.
+-- field."
+-- Assumes nothing.
 use Prim.Native.Nat.{ℕ, _-_}
 use mathlib.Core.Bool.{Bool, true, false, cond, not, _&&_, _||_}
 use mathlib.Core.List.{List, [], _∷_}

@@ -5,7 +5,8 @@ use mathlib.Core.Path.{_≡_, refl, subst, sym, ap, _∙_}
 use mathlib.Core.Bool.{Bool, true, false, cond, not, _&&_, _||_, Bool·beq}
 use mathlib.Core.List.{List, [], _∷_}
 use lib.Dec.{eqb, leb}
-use borrow.Author.Tests.{eqb-true, leb-true, eq-eqb}
+use borrow.Author.Tests.{eqb-true, leb-true, eq-eqb, not-true}
+use Rattle.lists.proofs.Bools.{and-left, and-right, beq-true, eq-beq}
 use Rattle.kinds.specs.Kinds.{Kind, rows, unknown, rowIn, rowOf, enters, quotes, sliding, minds, dark, light, carries, makers, asked}
 
 -- ---- the rows ----
@@ -19,26 +20,17 @@ abbrev isRow : List (ℕ × Kind) → ℕ → Bool
 isRow [] n = false
 isRow (row ∷ more) n = eqb n (row .0) || isRow more n
 
-first-of : (a b : Bool) → (a && b) ≡ true → a ≡ true
-first-of true b h = refl
-first-of false b h = h
-
-rest-of : (a b : Bool) → (a && b) ≡ true → b ≡ true
-rest-of true b h = h
-rest-of false true h = refl
-rest-of false false h = h
-
 -- a test that every row passes, and a number that no row has, every number passes
 by-rows : (test : ℕ → Kind → Bool) (n : ℕ) (l : List (ℕ × Kind)) → (isRow l n ≡ false → test n unknown ≡ true) → allRows test l ≡ true
     → test n (rowIn l n) ≡ true
 by-rows test n [] other h = other refl
 by-rows test n (row ∷ more) other h =
-    go (eqb n (row .0)) refl other (λ o. by-rows test n more o (rest-of (test (row .0) (row .1)) (allRows test more) h))
+    go (eqb n (row .0)) refl other (λ o. by-rows test n more o (and-right (test (row .0) (row .1)) (allRows test more) h))
   where
     go : (b : Bool) → eqb n (row .0) ≡ b → ((b || isRow more n) ≡ false → test n unknown ≡ true)
         → ((isRow more n ≡ false → test n unknown ≡ true) → test n (rowIn more n) ≡ true) → test n (cond b (row .1) (rowIn more n)) ≡ true
     go true e o next =
-        subst (λ (m : ℕ). test m (row .1) ≡ true) (sym (eqb-true n (row .0) e)) (first-of (test (row .0) (row .1)) (allRows test more) h)
+        subst (λ (m : ℕ). test m (row .1) ≡ true) (sym (eqb-true n (row .0) e)) (and-left (test (row .0) (row .1)) (allRows test more) h)
     go false e o next = next o
 
 implied : (a b : Bool) → (not a || b) ≡ true → a ≡ true → b ≡ true
@@ -75,10 +67,6 @@ minds-sliding n = one-then (λ k. k .minds) (λ k. k .sliding) refl refl n
 
 pub dark-enters : (n : ℕ) → dark n ≡ true → enters n ≡ true
 dark-enters n = one-then (λ k. k .dark) (λ k. k .enters) refl refl n
-
-not-true : (b : Bool) → not b ≡ true → b ≡ false
-not-true true h = sym h
-not-true false h = refl
 
 -- what is dark does not slide, nor does what passes over the undisplayed
 pub dark-rigid : (n : ℕ) → dark n ≡ true → sliding n ≡ false
@@ -158,28 +146,19 @@ none-of k [] h n out = go (eqb n k) refl
     go true e = sym h ∙ ap (isRow rows) (sym (eqb-true n k e)) ∙ out
     go false e = refl
 none-of k (j ∷ js) h n out =
-    go (eqb n k) refl (none-of j js (rest-of (isRow rows k) (areRows j js) h) n out)
+    go (eqb n k) refl (none-of j js (and-right (isRow rows k) (areRows j js) h) n out)
   where
     go : (c : Bool) → eqb n k ≡ c → oneOf j js n ≡ false → (c || oneOf j js n) ≡ false
-    go true e r = sym (first-of (isRow rows k) (areRows j js) h) ∙ ap (isRow rows) (sym (eqb-true n k e)) ∙ out
+    go true e r = sym (and-left (isRow rows k) (areRows j js) h) ∙ ap (isRow rows) (sym (eqb-true n k e)) ∙ out
     go false e r = r
-
-same-answer : (a b : Bool) → Bool·beq a b ≡ true → a ≡ b
-same-answer true true h = refl
-same-answer true false h = sym h
-same-answer false true h = h
-same-answer false false h = refl
-
-both-no : (a b : Bool) → a ≡ false → b ≡ false → Bool·beq a b ≡ true
-both-no a b p q = rw (p, q) refl
 
 -- THE LIST OF NUMBERS says the same as the rows
 listed : (f : Kind → Bool) (k : ℕ) (ks : List ℕ) → allRows (λ n r. Bool·beq (oneOf k ks n) (f r)) rows ≡ true → areRows k ks ≡ true → f unknown ≡ false
     → (n : ℕ) → oneOf k ks n ≡ f (rowOf n)
 unfolding rowOf
 listed f k ks h rs u n =
-    same-answer (oneOf k ks n) (f (rowIn rows n))
-    (by-rows (λ m r. Bool·beq (oneOf k ks m) (f r)) n rows (λ out. both-no (oneOf k ks n) (f unknown) (none-of k ks rs n out) u) h)
+    beq-true (oneOf k ks n) (f (rowIn rows n))
+    (by-rows (λ m r. Bool·beq (oneOf k ks m) (f r)) n rows (λ out. eq-beq (oneOf k ks n) (f unknown) (none-of k ks rs n out ∙ sym u)) h)
 
 pub enters-is : (n : ℕ) → oneOf 1 (2 ∷ 3 ∷ 4 ∷ 5 ∷ 6 ∷ []) n ≡ enters n
 enters-is n = listed (λ k. k .enters) 1 (2 ∷ 3 ∷ 4 ∷ 5 ∷ 6 ∷ []) refl refl refl n

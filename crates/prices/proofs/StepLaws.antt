@@ -1,6 +1,7 @@
 -- THE LAWS OF THE STEP: positive, back-lt, back-grid, back-high, back-legal, last-legal, past-last, within-last. Every other law knows a step by these alone,
 -- so that a step which depends on the price moves this file and specs/Step, and what says the same in plain words (crate soundness, specs/SoundBook and
--- DecideLaws). Assumes nothing.
+-- DecideLaws).
+-- Assumes nothing.
 use Prim.Native.Nat.{ℕ, _+_, _*_, _≤_, _<_, _%_}
 use mathlib.Core.Path.{_≡_, refl, sym}
 use mathlib.Core.Bool.{Bool, true, false, not, _&&_, _||_, and-true}

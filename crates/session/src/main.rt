@@ -7,7 +7,9 @@ use input::keep;
 use libc::STDOUT_FILENO;
 use lines::line::answer_lines;
 use packing::message::SIZE as MESSAGE;
+use packing::report::SIZE as REPORT;
 use packing::room::ROOM;
+use packing::setup::SIZE as SETUP;
 use series::Series;
 use series::open::open_series;
 ghost use Prim.Native.Nat.{_≤_};
@@ -130,7 +132,7 @@ fn run(start: Series, input: &mut [u8], first: usize, count: usize, out: &mut [u
 
 // "a refused setup prints `0 refused 1` and ends"
 fn refuse_setup(refusal: u32) {
-    let room = [0u8; 14];
+    let room = [0u8; REPORT];
     let mut out = [0u8; 128];
     let end = answer_lines(&mut out, 0, 0, refusal, 0, &room);
     is_out(&out, end);
@@ -138,12 +140,12 @@ fn refuse_setup(refusal: u32) {
 
 fn main() {
     let mut input = [0u8; 65536];
-    let got = fill(&mut input, 0, 4);
+    let got = fill(&mut input, 0, SETUP);
     if is_broken(got.failed) {
         return;
     }
     let count = got.count;
-    let first = least(count, 4);
+    let first = least(count, SETUP);
     let made = open_series(&input[..first]);
     if made.refusal != 0 {
         refuse_setup(made.refusal);

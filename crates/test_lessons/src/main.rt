@@ -7,6 +7,7 @@ use libc::STDOUT_FILENO;
 use lines::line::answer_lines;
 use packing::message::SIZE as MESSAGE;
 use packing::room::ROOM;
+use packing::setup::SIZE as SETUP;
 use series::Series;
 use series::open::open_series;
 use test_reading::number_at;
@@ -50,10 +51,10 @@ fn play_messages(start: Series, run: &[u8], from: usize, room: &mut [u8], out: &
 fn setup_end(run: &[u8]) -> usize
     ensures { λ r. ⌜ Counts r (now (run .entry)) ⌝ }
 {
-    if run.len() < 4 {
+    if run.len() < SETUP {
         return run.len();
     }
-    4
+    SETUP
 }
 
 fn play(run: &[u8], room: &mut [u8], out: &mut [u8]) {
