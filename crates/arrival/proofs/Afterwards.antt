@@ -1,8 +1,9 @@
 -- After a message's own part: who rests, and what the reports are that cancel.
 -- Assumes nothing.
-use Prim.Native.Nat.{ℕ, zero, suc, _<_}
+use Prim.Native.Nat.{ℕ, zero, suc, _≤_, _<_}
 use mathlib.Core.Bool.{Bool, true, false, cond, not}
 use mathlib.Core.List.{List}
+use native.Mathlib.Omega.{arith}
 use Rattle.prices.specs.declared.Prices.{Prices}
 use Rattle.lists.specs.Tests.{All}
 use Rattle.lists.specs.Choose.{Found, nowhere, found}
@@ -69,14 +70,15 @@ module _ (t : Terms) (e : Entry) (l : List Entry) (P : Entry → Type 0) (lessen
 
 -- ---- what cancelling reports ----
 
-module _ (l : List Entry) (P : Report → Type 0) (tells : (why : ℕ) (x : Entry) → P (cancelled why x)) where
-  pub cut-says : (why : ℕ) (f : Found Entry) → All P (cut why l f .records)
+-- with 28 what a message cancels, with 31 what a phase does
+module _ (l : List Entry) (P : Report → Type 0) (tells : (why : ℕ) → 27 ≤ why → (x : Entry) → P (cancelled why x)) where
+  pub cut-says : (why : ℕ) → 27 ≤ why → (f : Found Entry) → All P (cut why l f .records)
   unfolding cut still
-  cut-says why nowhere = tt
-  cut-says why (found i x) = (tells why x, tt)
+  cut-says why own nowhere = tt
+  cut-says why own (found i x) = (tells why own x, tt)
 
   pub sweep-says : (phase : ℕ) → All P (sweep phase l .records)
   sweep-says phase = complete-tells (λ _. Unit {0}) P (λ s r t h g. tt) (λ s r t h g. said (sweep-step phase s g)) tt (sweep-run phase l)
     where
       said : {s t : List Entry} {r : Report} → SweepStep phase s r t → P r
-      said (sweeps {e = e} c) = tells 31 e
+      said (sweeps {e = e} c) = tells 31 (omega arith) e

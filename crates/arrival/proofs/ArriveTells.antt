@@ -1,7 +1,7 @@
 -- EVERY REPORT OF AN ARRIVAL is its rejection, the cancellation of a quote of its own maker, a trade that it took within its bound, or what became of its rest;
 -- and only quotes are rejected or cancel quotes.
 -- Assumes nothing.
-use Prim.Native.Nat.{ℕ, zero, suc}
+use Prim.Native.Nat.{ℕ, zero, suc, _≤_}
 use mathlib.Core.Path.{_≡_, refl}
 use mathlib.Core.Bool.{Bool, true, false, cond, not}
 use mathlib.Core.List.{List}
@@ -35,47 +35,58 @@ use Rattle.arrival.proofs.ArriveKeeps.{goesOn}
 abbrev pub tradesOf : Terms → Entry → List Entry → Ran Taking Report
 tradesOf t e l = took (marketOf t) e (replaced e l .final)
 
--- P of every report that an arrival may give
+-- why the rest of an arrival was stopped: it was not rejected, so much of it was left behind its trades, and that is the reason there
+pub record RestStopped (t : Terms) (e : Entry) (l : List Entry) (why left : ℕ) : Type 0 where
+  pub enters : rejection t e l ≡ 0
+  pub reason : stopFor t e (tradesOf t e l .final .book) ≡ why
+  pub rest : tradesOf t e l .final .left ≡ left
+  pub stops : 1 ≤ why
+  pub some : 1 ≤ left
+
+-- P of every report that an arrival may give; a quote of its maker is cancelled with 27, 29 or 30
 pub record Says (t : Terms) (e : Entry) (l : List Entry) (P : Report → Type 0) : Type 0 where
-  pub rejects : quote e ≡ true → (why : ℕ) → P (rejected why e)
-  pub cancels : quote e ≡ true → (why : ℕ) (s : Bool) (x : Entry) → OfMaker (e .party) s x → P (cancelled why x)
+  pub rejects : quote e ≡ true → (why : ℕ) → rejection t e l ≡ why → 1 ≤ why → P (rejected why e)
+  pub cancels : quote e ≡ true → (why : ℕ) → 27 ≤ why → (s : Bool) (x : Entry) → OfMaker (e .party) s x → P (cancelled why x)
   pub trades : minds (e .kind) ≡ false → (y : Entry) (q : ℕ) → reaches (e .sell) (bound (marketOf t) e) (y .working) ≡ true → P (traded e y q)
   pub rests : (left : ℕ) → stopFor t e (tradesOf t e l .final .book) ≡ 0 → P (rested (asPosted e left (pricesOf t e (tradesOf t e l .final .book))))
-  pub stops : (why left : ℕ) → P (cancelled why (withQuantity left e))
+  pub stops : (why left : ℕ) → RestStopped t e l why left → P (cancelled why (withQuantity left e))
 
 module _ (t : Terms) (e : Entry) (l : List Entry) (P : Report → Type 0) (s : Says t e l P) where
-  cut-says : quote e ≡ true → (why : ℕ) (side : Bool) (r : List Entry) → All P (cutQuote why (e .party) side r .records)
+  cut-says : quote e ≡ true → (why : ℕ) → 27 ≤ why → (side : Bool) (r : List Entry) → All P (cutQuote why (e .party) side r .records)
   unfolding cut still
-  cut-says q why side r = go (quoteIn (e .party) side r) (quote-tells r (e .party) side)
+  cut-says q why own side r = go (quoteIn (e .party) side r) (quote-tells r (e .party) side)
     where
       go : (f : Found Entry) → Tells (quoteOf (e .party) side) (λ _. 0) r f → All P (cut why r f .records)
       go nowhere c = tt
-      go (found i x) c = (s .cancels q why side x (of-maker (e .party) side x (c .passes)), tt)
+      go (found i x) c = (s .cancels q why own side x (of-maker (e .party) side x (c .passes)), tt)
 
-  quotes-say : (why : ℕ) (side : Bool) (r : List Entry) → All P (ofQuotes e (cutQuote why (e .party) side) r .records)
+  quotes-say : (why : ℕ) → 27 ≤ why → (side : Bool) (r : List Entry) → All P (ofQuotes e (cutQuote why (e .party) side) r .records)
   unfolding still
-  quotes-say why side r =
+  quotes-say why own side r =
       cond-either (λ (x : Ran (List Entry) Report). All P (x .records)) (quote e) (cutQuote why (e .party) side r) (still r)
-      (λ q. cut-says q why side r) (λ q. tt)
+      (λ q. cut-says q why own side r) (λ q. tt)
 
-  finished-says : (left why : ℕ) (r : List Entry) → (why ≡ 0 → P (rested (asPosted e left (pricesOf t e r)))) → All P (finished t e left why r .records)
+  finished-says : (left why : ℕ) (r : List Entry) → (why ≡ 0 → P (rested (asPosted e left (pricesOf t e r))))
+      → (1 ≤ why → 1 ≤ left → P (cancelled why (withQuantity left e))) → All P (finished t e left why r .records)
   unfolding still
-  finished-says zero why r f = tt
-  finished-says (suc left) zero r f = (f refl, tt)
-  finished-says (suc left) (suc why) r f = (s .stops (suc why) (suc left), quotes-say 29 (not (e .sell)) r)
+  finished-says zero why r f g = tt
+  finished-says (suc left) zero r f g = (f refl, tt)
+  finished-says (suc left) (suc why) r f g = (g (omega arith) (omega arith), quotes-say 29 (omega arith) (not (e .sell)) r)
 
-  entered-says : All P (entered t e l .records)
+  entered-says : rejection t e l ≡ 0 → All P (entered t e l .records)
   unfolding entered
-  entered-says =
+  entered-says passes =
       let x : Ran Taking Report = tradesOf t e l in
-      all-append P (replaced e l .records) (goesOn t e (replaced e l .final) .records) (quotes-say 27 (e .sell) l)
+      all-append P (replaced e l .records) (goesOn t e (replaced e l .final) .records) (quotes-say 27 (omega arith) (e .sell) l)
       (all-append P (x .records) (finished t e (x .final .left) (stopFor t e (x .final .book)) (x .final .book) .records)
       (took-tells (marketOf t) e (replaced e l .final) P (s .trades))
-      (finished-says (x .final .left) (stopFor t e (x .final .book)) (x .final .book) (λ h. s .rests (x .final .left) h)))
+      (finished-says (x .final .left) (stopFor t e (x .final .book)) (x .final .book) (λ h. s .rests (x .final .left) h)
+      (λ some more. s .stops (stopFor t e (x .final .book)) (x .final .left)
+      (record { enters = passes; reason = refl; rest = refl; stops = some; some = more }))))
 
-  rejected-says : quote e ≡ true → (why : ℕ) → All P (rejectedBy why e l .records)
+  rejected-says : quote e ≡ true → (why : ℕ) → rejection t e l ≡ why → 1 ≤ why → All P (rejectedBy why e l .records)
   unfolding rejectedBy
-  rejected-says q why = (s .rejects q why, pick (bothQuotes why))
+  rejected-says q why is some = (s .rejects q why is some, pick (bothQuotes why))
     where
       pick : (b : Bool)
           → All P
@@ -83,8 +94,8 @@ module _ (t : Terms) (e : Entry) (l : List Entry) (P : Report → Type 0) (s : S
           l .records)
       pick true =
           all-append P (cutQuote 30 (e .party) false l .records) (cutQuote 30 (e .party) true (cutQuote 30 (e .party) false l .final) .records)
-          (cut-says q 30 false l) (cut-says q 30 true (cutQuote 30 (e .party) false l .final))
-      pick false = cut-says q 30 (e .sell) l
+          (cut-says q 30 (omega arith) false l) (cut-says q 30 (omega arith) true (cutQuote 30 (e .party) false l .final))
+      pick false = cut-says q 30 (omega arith) (e .sell) l
 
   -- SO EVERY REPORT SAYS IT
   pub arrived-says : All P (arrived t e l .records)
@@ -92,5 +103,5 @@ module _ (t : Terms) (e : Entry) (l : List Entry) (P : Report → Type 0) (s : S
   arrived-says = go (rejection t e l) refl
     where
       go : (why : ℕ) → rejection t e l ≡ why → All P (arrivedAs t e l why .records)
-      go zero h = entered-says
-      go (suc why) h = rejected-says (rejected-quote t e l (omega arith)) (suc why)
+      go zero h = entered-says h
+      go (suc why) h = rejected-says (rejected-quote t e l (omega arith)) (suc why) h (omega arith)

@@ -226,11 +226,11 @@ LeavesQuotes n (Cancelled why s party number limit quantity) = number ≡ n
 pub orders-leave-quotes : (t : Terms) (e : Entry) (l : List Entry) → quote e ≡ false → All (LeavesQuotes (e .number)) (arrived t e l .records)
 orders-leave-quotes t e l q =
     arrived-says t e l (LeavesQuotes (e .number)) (record {
-      rejects = λ p why. clash p q;
-      cancels = λ p why s x o. clash p q;
+      rejects = λ p why is stops. clash p q;
+      cancels = λ p why own s x o. clash p q;
       trades = λ mi y n w. refl;
       rests = λ left h. refl;
-      stops = λ why left. refl;
+      stops = λ why left r. refl;
     })
 
 -- and the book afterwards is what its trades left of the book before, with the order behind it if it rests
@@ -264,11 +264,11 @@ NoTrade (Cancelled why s party number limit quantity) = Unit {0}
 pub adds-on-arrival : (t : Terms) (e : Entry) (l : List Entry) → minds (e .kind) ≡ true → All NoTrade (arrived t e l .records)
 adds-on-arrival t e l k =
     arrived-says t e l NoTrade (record {
-      rejects = λ p why. tt;
-      cancels = λ p why s x o. tt;
+      rejects = λ p why is stops. tt;
+      cancels = λ p why own s x o. tt;
       trades = λ mi y n w. clash k mi;
       rests = λ left h. tt;
-      stops = λ why left. tt;
+      stops = λ why left r. tt;
     })
 
 -- ---- "C the lowest working price of any sell in the book, dark included" ----
@@ -377,9 +377,9 @@ module _ (t : Terms) (e : Entry) (l : List Entry) (a : Arriving t e l) (minding 
 pub priced-off-dark : {t : Terms} {e : Entry} {l : List Entry} → Arriving t e l → minds (e .kind) ≡ true → All (PricedOff t e l) (arrived t e l .records)
 priced-off-dark {t} {e} {l} a k =
     arrived-says t e l (PricedOff t e l) (record {
-      rejects = λ p why. tt;
-      cancels = λ p why s x o. tt;
+      rejects = λ p why is stops. tt;
+      cancels = λ p why own s x o. tt;
       trades = λ mi y n w. tt;
       rests = λ left h. rests-so t e l a k left h;
-      stops = λ why left. tt;
+      stops = λ why left r. tt;
     })

@@ -13,6 +13,7 @@ pub mod OwnSide
 pub mod ArriveTells
 pub mod Afterwards
 pub mod Within
+pub mod Stays
 pub mod ForTheClass
 pub mod EnterLaws
 pub mod EnteredLaws

@@ -28,8 +28,8 @@ use Rattle.kinds.proofs.KindLaws.{no-such, stays-out, quotes-enter, quotes-make
 use Rattle.handler.specs.Refuse.{badParty, badPrice, badQuantity, notOpen, refusalOf}
 use Rattle.handler.specs.Accept.{comer, blockedAfter, seriesAfter}
 use Rattle.handler.specs.Handle.{Handled, refused, handled}
-use Rattle.handler.proofs.Ways.{Accepting, accepting, handled-accepted, handled-refused}
-use Rattle.handler.proofs.Passed.{Accepted, accepts, tests, maker-within}
+use Rattle.handler.proofs.Ways.{handled-refused}
+use Rattle.handler.proofs.Passed.{Accepted, of-accepted, tests, maker-within}
 use Rattle.handler.proofs.HandleLaws.{enable-maker}
 
 -- a maker is blocked in a series
@@ -55,14 +55,7 @@ pub record Blocking (s : Series) (a : Ask) (after : Series) : Type 0 where
   -- so that who is blocked stays so until kind 12 names it
   pub until : (maker : ℕ) → 1 ≤ maker → isBlockedIn s maker ≡ true → (a .kind ≡ 12 → maker ≡ a .party → ⊥) → isBlockedIn after maker ≡ true
 
-module _ (s : Series) (a : Ask) (ok : Accepted s a) (flags : length (s .blocked) ≡ 16) where
-  -- a maker has a flag
-  party-flag : makers (a .kind) ≡ true → (1 ≤ a .party) × (a .party - 1 < length (s .blocked))
-  party-flag q = let p = maker-within a q (tests s a ok .party) in (p .0, omega (arith, p .0, p .1, flags))
-
-  quote-flag : quotes (a .kind) ≡ true → makers (a .kind) ≡ true
-  quote-flag q = quotes-makers (a .kind) q
-
+module _ (s : Series) (a : Ask) where
   not-enable : quotes (a .kind) ≡ true → enables (a .kind) ≡ false
   not-enable q = no-such enters 12 (a .kind) (stays-out 12 refl) (quotes-enter (a .kind) q)
 
@@ -76,7 +69,7 @@ module _ (s : Series) (a : Ask) (ok : Accepted s a) (flags : length (s .blocked)
   blocked-is q low =
       rw (not-enable q, q, two-sides (rejectionOf s a) low (rejection-among (s .terms) (comer (s .terms .given) a) (entriesOf (s .book)) .most)) refl
 
-  same-is : (a .kind ≡ 12 → ⊥) → (quotes (a .kind) ≡ true → rejectionOf s a ≤ 24) → seriesAfter s a .blocked ≡ s .blocked
+  pub same-is : (a .kind ≡ 12 → ⊥) → (quotes (a .kind) ≡ true → rejectionOf s a ≤ 24) → seriesAfter s a .blocked ≡ s .blocked
   unfolding blockedAfter blocks
   same-is k low = rw (ne-eqb (a .kind) 12 k) (go (quotes (a .kind)) refl)
     where
@@ -85,17 +78,25 @@ module _ (s : Series) (a : Ask) (ok : Accepted s a) (flags : length (s .blocked)
       go true q = rw (one-side (rejectionOf s a) (low q)) refl
       go false q = refl
 
+module _ (s : Series) (a : Ask) (ok : Accepted s a) (flags : length (s .blocked) ≡ 16) where
+  -- a maker has a flag
+  party-flag : makers (a .kind) ≡ true → (1 ≤ a .party) × (a .party - 1 < length (s .blocked))
+  party-flag q = let p = maker-within a q (tests s a ok .party) in (p .0, omega (arith, p .0, p .1, flags))
+
+  quote-flag : quotes (a .kind) ≡ true → makers (a .kind) ≡ true
+  quote-flag q = quotes-makers (a .kind) q
+
   -- which of them it is: what holds in each holds afterwards
   by-ways : (C : List Bool → Type 0) → (a .kind ≡ 12 → C (set (s .blocked) (a .party - 1) false))
       → (quotes (a .kind) ≡ true → C (set (s .blocked) (a .party - 1) true)) → C (s .blocked) → C (seriesAfter s a .blocked)
   by-ways C one two three = go (enables (a .kind)) refl (quotes (a .kind)) refl (leb 25 (rejectionOf s a)) refl
     where
       go : (b : Bool) → enables (a .kind) ≡ b → (c : Bool) → quotes (a .kind) ≡ c → (d : Bool) → leb 25 (rejectionOf s a) ≡ d → C (seriesAfter s a .blocked)
-      go true p c q d r = subst C (sym (enabled-is (eqb-true (a .kind) 12 p))) (one (eqb-true (a .kind) 12 p))
-      go false p true q true r = subst C (sym (blocked-is q (leb-true 25 (rejectionOf s a) r))) (two q)
+      go true p c q d r = subst C (sym (enabled-is s a (eqb-true (a .kind) 12 p))) (one (eqb-true (a .kind) 12 p))
+      go false p true q true r = subst C (sym (blocked-is s a q (leb-true 25 (rejectionOf s a) r))) (two q)
       go false p true q false r =
-          subst C (sym (same-is (eqb-false (a .kind) 12 p) (λ _. let z = leb-false 25 (rejectionOf s a) r in omega (arith, z)))) three
-      go false p false q d r = subst C (sym (same-is (eqb-false (a .kind) 12 p) (λ z. clash z q))) three
+          subst C (sym (same-is s a (eqb-false (a .kind) 12 p) (λ _. let z = leb-false 25 (rejectionOf s a) r in omega (arith, z)))) three
+      go false p false q d r = subst C (sym (same-is s a (eqb-false (a .kind) 12 p) (λ z. clash z q))) three
 
   -- another maker has another flag
   other-flag : (maker : ℕ) (b : Bool) → 1 ≤ maker → (maker ≡ a .party → ⊥) → makers (a .kind) ≡ true
@@ -106,13 +107,13 @@ module _ (s : Series) (a : Ask) (ok : Accepted s a) (flags : length (s .blocked)
   own-flag : (b : Bool) → makers (a .kind) ≡ true → getD (set (s .blocked) (a .party - 1) b) (a .party - 1) false ≡ b
   own-flag b q = getD-set-same (s .blocked) (a .party - 1) b false (party-flag q .1)
 
-  blocking : Blocking s a (seriesAfter s a)
+  pub blocking : Blocking s a (seriesAfter s a)
   blocking = record {
-    blocked = λ q low. ap (λ (f : List Bool). getD f (a .party - 1) false) (blocked-is q low) ∙ own-flag true (quote-flag q);
-    enabled = λ k. ap (λ (f : List Bool). getD f (a .party - 1) false) (enabled-is k) ∙ own-flag false (enable-maker a k);
+    blocked = λ q low. ap (λ (f : List Bool). getD f (a .party - 1) false) (blocked-is s a q low) ∙ own-flag true (quote-flag q);
+    enabled = λ k. ap (λ (f : List Bool). getD f (a .party - 1) false) (enabled-is s a k) ∙ own-flag false (enable-maker a k);
     others = λ maker one apart. by-ways (λ (f : List Bool). getD f (maker - 1) false ≡ isBlockedIn s maker)
         (λ k. other-flag maker false one apart (enable-maker a k)) (λ q. other-flag maker true one apart (quote-flag q)) refl;
-    same = same-is;
+    same = same-is s a;
     flags = by-ways (λ (f : List Bool). length f ≡ 16) (λ k. length-set (s .blocked) (a .party - 1) false ∙ flags)
         (λ q. length-set (s .blocked) (a .party - 1) true ∙ flags) flags;
     until = until;
@@ -131,12 +132,7 @@ module _ (s : Series) (a : Ask) (ok : Accepted s a) (flags : length (s .blocked)
 pub blocked-until-enabled : (s : Series) (message room : List ℕ) (e : Event) → unpackOf messages message ≡ some e → handled s message room .answer .refusal ≡ 0
     → length (s .blocked) ≡ 16 → Blocking s (askOf e) (handled s message room .answer .series)
 blocked-until-enabled s message room e read h flags =
-    let w : Accepting s message room = accepting s message room h in
-    let same : w .event ≡ e = (let z : some (w .event) ≡ some e = sym (w .read) ∙ read in cc) in
-    subst (λ (x : Event). Blocking s (askOf x) (handled s message room .answer .series)) same
-    (subst (λ (x : Handled). Blocking s (askOf (w .event)) (x .answer .series))
-    (sym (handled-accepted s message room (w .space) (w .sound) (w .event) (w .read) (w .passes)))
-    (blocking s (askOf (w .event)) (accepts s (w .event) (w .sound) (w .passes)) flags))
+    of-accepted s message room e read h (λ (x : Handled). Blocking s (askOf e) (x .answer .series)) (λ ok space. blocking s (askOf e) ok flags)
 
 six-first : (s : Series) (a : Ask) → badParty a ≡ false → badPrice (s .terms .m) a ≡ false → badQuantity a ≡ false → notOpen (s .terms .phase) a ≡ false
     → quotes (a .kind) ≡ true → isBlockedIn s (a .party) ≡ true → refusalOf s a ≡ 6

@@ -2,10 +2,10 @@
 -- read back from there; they are at most 2,280; settling took at most N(N+5)/2 steps, with one report each, and left nothing to do; and what is answered in a
 -- run.
 -- Assumes nothing.
-use Prim.Native.Nat.{ℕ, _+_, _*_, _≤_, _<_}
+use Prim.Native.Nat.{ℕ, zero, suc, _+_, _*_, _≤_, _<_}
 use mathlib.Core.Path.{_≡_, refl, sym, subst, ap, _∙_}
 use mathlib.Core.Bool.{Bool, true, false, cond}
-use mathlib.Core.List.{List, [], _++_, map}
+use mathlib.Core.List.{List, [], _∷_, _++_, map}
 use mathlib.Core.Option.{Option, none, some}
 use native.Mathlib.Omega.{arith}
 use lib.Dec.{eqb}
@@ -14,6 +14,7 @@ use lib.Seq.{take-at, drop-append-seam}
 use borrow.Author.Tests.{eq-eqb, ne-eqb}
 use Rattle.prices.specs.declared.Market.{Market}
 use Rattle.lists.specs.Places.{At}
+use Rattle.lists.specs.Tests.{All}
 use Rattle.lists.specs.Run.{stop, Complete, Ran, still}
 use Rattle.packing.specs.declared.message.Event.{Event}
 use Rattle.packing.specs.declared.report.Report.{Report}
@@ -35,7 +36,7 @@ use Rattle.handler.specs.Asked.{askOf}
 use Rattle.handler.specs.Accept.{ownPart, termsAfter, settledIf, done, seriesAfter}
 use Rattle.handler.specs.Handle.{Handled, refused, accepted, handled, handledAt}
 use Rattle.handler.proofs.Ways.{Accepting, accepting, handled-nothing, handled-accepted}
-use Rattle.handler.proofs.Passed.{Accepted, accepts}
+use Rattle.handler.proofs.Passed.{Accepted, accepts, of-accepted}
 use Rattle.handler.proofs.Accepted.{own-sound, done-part}
 
 -- ---- the reports of a message ----
@@ -50,6 +51,48 @@ settlingOf s a = settledIf (termsAfter (s .terms) a) (ownOf s a .final)
 abbrev pub reportsOf : Series → Option Event → List Report
 reportsOf s none = []
 reportsOf s (some e) = done (s .terms) (askOf e) (entriesOf (s .book)) .records
+
+-- the counted reports of an answer, as they unpack from the room
+abbrev pub reportsIn : Handled → List (Option Report)
+reportsIn h = readBack (h .answer .count) (h .room)
+
+-- each of them unpacks, to a report of which P holds
+abbrev pub OfReport : (Report → Type 0) → Option Report → Type 0
+OfReport P none = ⊥
+OfReport P (some r) = P r
+
+abbrev pub EachReport : (Report → Type 0) → Handled → Type 0
+EachReport P h = All (OfReport P) (reportsIn h)
+
+module _ (s : Series) (a : Ask) (ok : Accepted s a) (room : List ℕ) (space : roomSize ≤ length room) where
+  pub accepted-told : reportsIn (accepted s a room) ≡ map some (done (s .terms) a (entriesOf (s .book)) .records)
+  accepted-told =
+      reports-read-back room 0 (done (s .terms) a (entriesOf (s .book)) .records) (done-part s a ok .fit) (omega (arith, done-part s a ok .few, space))
+
+  -- what is so of each report of the definition is so of each that stands in the room,
+  pub each-told : (P : Report → Type 0) → All P (done (s .terms) a (entriesOf (s .book)) .records) → EachReport P (accepted s a room)
+  each-told P h = subst (All (OfReport P)) (sym accepted-told) (over (done (s .terms) a (entriesOf (s .book)) .records) h)
+    where
+      over : (rs : List Report) → All P rs → All (OfReport P) (map some rs)
+      over [] h = tt
+      over (r ∷ rs) h = (h .0, over rs (h .1))
+
+  -- and a report that stands in the room is the definition's
+  pub at-told : (i : ℕ) (r : Report) → At (reportsIn (accepted s a room)) i (some r) → At (done (s .terms) a (entriesOf (s .book)) .records) i r
+  at-told i r h = under (done (s .terms) a (entriesOf (s .book)) .records) i (rw accepted-told at h)
+    where
+      under : (rs : List Report) (i : ℕ) → At (map some rs) i (some r) → At rs i r
+      under [] i h = h
+      under (x ∷ rs) zero h = cc
+      under (x ∷ rs) (suc i) h = under rs i h
+
+  pub told-at : (i : ℕ) (r : Report) → At (done (s .terms) a (entriesOf (s .book)) .records) i r → At (reportsIn (accepted s a room)) i (some r)
+  told-at i r h = subst (λ (rs : List (Option Report)). At rs i (some r)) (sym accepted-told) (over (done (s .terms) a (entriesOf (s .book)) .records) i h)
+    where
+      over : (rs : List Report) (i : ℕ) → At rs i r → At (map some rs) i (some r)
+      over [] i h = h
+      over (x ∷ rs) zero h = ap some h
+      over (x ∷ rs) (suc i) h = over rs i h
 
 module _ (s : Series) (message room : List ℕ) (zero : handled s message room .answer .refusal ≡ 0) where
   way : Accepting s message room
@@ -81,12 +124,9 @@ module _ (s : Series) (message room : List ℕ) (zero : handled s message room .
       ∙ ap (λ (n : ℕ). packedAll (reportsOf s (unpackOf messages message)) ++ drop n room) size
 
   -- EACH REPORT UNPACKS TO THE DEFINITION'S
-  pub reports-told : readBack (handled s message room .answer .count) (handled s message room .room) ≡ map some (reportsOf s (unpackOf messages message))
+  pub reports-told : reportsIn (handled s message room) ≡ map some (reportsOf s (unpackOf messages message))
   reports-told =
-      ap (λ (h : Handled). readBack (h .answer .count) (h .room)) answer-is
-      ∙ reports-read-back room 0 (reportsOf s (some (way .event))) (done-part s (askOf (way .event)) ok .fit)
-      (omega (arith, done-part s (askOf (way .event)) ok .few, way .space))
-      ∙ ap (map some) (sym reports-are)
+      ap reportsIn answer-is ∙ accepted-told s (askOf (way .event)) ok room (way .space) ∙ ap (map some) (sym reports-are)
 
   -- "2,280 reports of 14": THE ROOM IS ENOUGH
   pub room-enough : handled s message room .answer .count ≤ mostReports
@@ -161,12 +201,7 @@ module _ (s : Series) (a : Ask) (acc : Accepted s a) (room : List ℕ) where
 -- DEMAND 3, for every sound series and accepted message
 pub demand-3 : (s : Series) (message room : List ℕ) (e : Event) → unpackOf messages message ≡ some e → handled s message room .answer .refusal ≡ 0
     → Demand3 s (askOf e) (handled s message room)
-demand-3 s message room e read h =
-    let w : Accepting s message room = accepting s message room h in
-    let same : w .event ≡ e = (let z : some (w .event) ≡ some e = sym (w .read) ∙ read in cc) in
-    subst (λ (x : Event). Demand3 s (askOf x) (handled s message room)) same
-    (subst (Demand3 s (askOf (w .event))) (sym (handled-accepted s message room (w .space) (w .sound) (w .event) (w .read) (w .passes)))
-    (demand-3-of s (askOf (w .event)) (accepts s (w .event) (w .sound) (w .passes)) room))
+demand-3 s message room e read h = of-accepted s message room e read h (Demand3 s (askOf e)) (λ ok _. demand-3-of s (askOf e) ok room)
 
 -- ---- a message in a long run ----
 

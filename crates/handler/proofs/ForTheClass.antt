@@ -83,13 +83,15 @@ module _ (s : Series) (a : Ask) where
       Rested x = All P (x .final)
 
   -- what its reports say: what those of an arrival do, and a note, and what is cancelled
-  own-says : (P : Report → Type 0) → (enters (a .kind) ≡ true → All P (arrived (s .terms) (comer (s .terms .given) a) (entriesOf (s .book)) .records))
-      → P Noted → ((why : ℕ) (x : Entry) → P (cancelled why x)) → All P (ownPart (s .terms) a (entriesOf (s .book)) .records)
+  pub own-says : (P : Report → Type 0) → (enters (a .kind) ≡ true → All P (arrived (s .terms) (comer (s .terms .given) a) (entriesOf (s .book)) .records))
+      → P Noted → ((why : ℕ) → 27 ≤ why → (x : Entry) → P (cancelled why x)) → All P (ownPart (s .terms) a (entriesOf (s .book)) .records)
   unfolding ownPart
   own-says P arrives noted gone =
       cond-either Says (enters (a .kind)) (arrived t (comer (t .given) a) l) _ arrives
-      (λ _. cond-either Says (cancelsEntry (a .kind)) (cancelEntry (a .party) (a .entry) l) _ (λ _. cut-says l P gone 28 (entryOf (a .party) (a .entry) l))
-      (λ _. cond-either Says (cancelsQuote (a .kind)) (cancelQuote (a .party) (a .sell) l) _ (λ _. cut-says l P gone 28 (quoteIn (a .party) (a .sell) l))
+      (λ _. cond-either Says (cancelsEntry (a .kind)) (cancelEntry (a .party) (a .entry) l) _
+      (λ _. cut-says l P gone 28 (omega arith) (entryOf (a .party) (a .entry) l))
+      (λ _. cond-either Says (cancelsQuote (a .kind)) (cancelQuote (a .party) (a .sell) l) _
+      (λ _. cut-says l P gone 28 (omega arith) (quoteIn (a .party) (a .sell) l))
       (λ _. cond-either Says (setsPhase (a .kind)) (andThen (reported Noted l) (sweep (a .quantity))) (reported Noted l)
       (λ _. (noted, sweep-says l P gone (a .quantity))) (λ _. (noted, tt)))))
     where
@@ -102,21 +104,21 @@ module _ (s : Series) (a : Ask) where
   own-spares n some m =
       own-says (NotTaker n)
       (λ q. arrived-says t (comer (t .given) a) l (NotTaker n) (record {
-        rejects = λ p why z. omega arith;
-        cancels = λ p why side x o z. omega arith;
+        rejects = λ p why is stops z. omega arith;
+        cancels = λ p why own side x o z. omega arith;
         trades = λ mi y k w z. clash (m q z) mi;
         rests = λ left h z. omega arith;
-        stops = λ why left z. omega arith;
-      })) (λ z. omega arith) (λ why x z. omega arith)
+        stops = λ why left r z. omega arith;
+      })) (λ z. omega arith) (λ why own x z. omega arith)
 
   module _ (ok : Accepted s a) where
-    so : Sound (s .terms .m) (s .terms .given) (entriesOf (s .book))
+    pub so : Sound (s .terms .m) (s .terms .given) (entriesOf (s .book))
     so = is-sound (t .m) (t .given) l (facts s a ok .step) (facts s a ok .entries)
 
     -- ---- "Sliding a display back when the away price falls" ----
 
     -- what rests at the end was there after the message's own part,
-    settled-stems : All (Stems (ownPart (s .terms) a (entriesOf (s .book)) .final)) (done (s .terms) a (entriesOf (s .book)) .final)
+    pub settled-stems : All (Stems (ownPart (s .terms) a (entriesOf (s .book)) .final)) (done (s .terms) a (entriesOf (s .book)) .final)
     unfolding done still
     settled-stems =
         let r : List Entry = ownPart t a l .final in
@@ -130,7 +132,7 @@ module _ (s : Series) (a : Ask) where
         own-all (λ (x : Entry). (x .number ≡ t .given + 1) ⊎ Stems l x) (λ q x. ⊎-elim (λ z. inl z) (λ u. inr (stems-lessened q x u))) (λ _ left p. inl refl)
         (all-map (λ x u. inr u) l (stems-start l))
 
-    after : Sound (termsAfter (s .terms) a .m) (termsAfter (s .terms) a .given) (done (s .terms) a (entriesOf (s .book)) .final)
+    pub after : Sound (termsAfter (s .terms) a .m) (termsAfter (s .terms) a .given) (done (s .terms) a (entriesOf (s .book)) .final)
     after = is-sound (termsAfter t a .m) (termsAfter t a .given) (done t a l .final) (step-mpv (terms-legal s a ok .step)) (done-part s a ok .sound)
 
     -- A DISPLAY NEVER MOVES BACK WHILE ITS QUOTE RESTS: the display of an entry that rests before and after a message is afterwards as aggressive as it was, or
@@ -193,6 +195,6 @@ module _ (s : Series) (a : Ask) where
         let k : Market = marketOf (termsAfter t a) in
         let r : List Entry = ownPart t a l .final in
         all-append (TradesWithin k) (ownPart t a l .records) (settledIf (termsAfter t a) r .records)
-        (own-says (TradesWithin k) (λ q. rw (same-market q) (arrival-within-away t (comer (t .given) a) l)) tt (λ why x. tt))
+        (own-says (TradesWithin k) (λ q. rw (same-market q) (arrival-within-away t (comer (t .given) a) l)) tt (λ why own x. tt))
         (cond-either (λ (x : Ran (List Entry) Report). All (TradesWithin k) (x .records)) (eqb (termsAfter t a .phase) 1) (settled k r) (still r)
         (λ _. settles (own-sound s a ok) .within) (λ _. tt))

@@ -10,3 +10,6 @@ pub mod Blocks
 pub mod Examples
 pub mod Worked
 pub mod ForTheClass
+pub mod TaughtWords
+pub mod TaughtLaws
+pub mod Taught

@@ -1,9 +1,10 @@
 -- What it tells that a message met no refusal: the tests that it passed are what arrival asks of a quote or an order, and they keep the series' numbers legal.
 -- Assumes nothing.
 use Prim.Native.Nat.{ℕ, suc, _+_, _≤_, _<_}
-use mathlib.Core.Path.{_≡_, refl}
+use mathlib.Core.Path.{_≡_, refl, sym, subst, _∙_}
 use mathlib.Core.Bool.{Bool, true, false, cond, not, _&&_}
 use mathlib.Core.List.{List}
+use mathlib.Core.Option.{some}
 use native.Mathlib.Omega.{arith}
 use lib.Dec.{eqb, leb}
 use lib.ListN.{length}
@@ -18,6 +19,9 @@ use Rattle.lists.proofs.ChooseLaws.{Tells}
 use Rattle.packing.specs.declared.message.Event.{Event}
 use Rattle.packing.specs.declared.message.Event.the-variants.{Plain, Mmlo, Mmalo, Mmrp, Displayed, Dark, CancelEntry}
 use Rattle.packing.specs.declared.message.Event.the-variants.{CancelQuote, Away, Underlying, Phase, Enable}
+use Rattle.packing.specs.Codec.{unpackOf}
+use Rattle.packing.specs.Message.{messages}
+use Rattle.packing.specs.Room.{roomSize}
 use Rattle.book.specs.declared.Entry.{Entry}
 use Rattle.book.specs.Entries.{quoteOf, lastNumber}
 use Rattle.book.specs.Shape.{entriesOf}
@@ -40,6 +44,8 @@ use Rattle.kinds.specs.Kinds.{enters, quotes, makers, carries, setsAway, setsPh
 use Rattle.kinds.proofs.KindLaws.{enters-carries, quotes-makers, stays-out}
 use Rattle.handler.specs.Refuse.{badParty, badPrice, badQuantity, notOpen, isBlocked, isFull, isSpent, isMissing, refusalOf}
 use Rattle.handler.specs.Accept.{comer, termsAfter}
+use Rattle.handler.specs.Handle.{Handled, accepted, handled}
+use Rattle.handler.proofs.Ways.{Accepting, accepting, handled-accepted}
 use Rattle.terms.specs.Terms.{topUnderlying}
 
 -- ---- the tests that were passed ----
@@ -98,6 +104,15 @@ pub record Accepted (s : Series) (a : Ask) : Type 0 where
 
 pub accepts : (s : Series) (e : Event) → soundSeries s ≡ true → refusalOf s (askOf e) ≡ 0 → Accepted s (askOf e)
 accepts s e h k = record { sound = h; kind = ask-kind e .0; passes = k }
+
+-- what holds of every answer to an accepted message holds of what is answered
+pub of-accepted : (s : Series) (message room : List ℕ) (e : Event) → unpackOf messages message ≡ some e → handled s message room .answer .refusal ≡ 0
+    → (P : Handled → Type 0) → (Accepted s (askOf e) → roomSize ≤ length room → P (accepted s (askOf e) room)) → P (handled s message room)
+of-accepted s message room e read zero P holds =
+    let w : Accepting s message room = accepting s message room zero in
+    let same : w .event ≡ e = (let z : some (w .event) ≡ some e = sym (w .read) ∙ read in cc) in
+    let passes : refusalOf s (askOf e) ≡ 0 = subst (λ (x : Event). refusalOf s (askOf x) ≡ 0) same (w .passes) in
+    subst P (sym (handled-accepted s message room (w .space) (w .sound) e read passes)) (holds (accepts s e (w .sound) passes) (w .space))
 
 -- ---- what the tests say ----
 

@@ -6,4 +6,5 @@ pub mod Packs
 pub mod Takers
 pub mod Quiet
 pub mod Within
+pub mod Stays
 pub mod Settles

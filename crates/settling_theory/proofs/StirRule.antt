@@ -59,14 +59,15 @@ triangle-falls m n h = omega (arith, triangle-mono (suc m) n h)
 
 -- ---- a trade ----
 
+-- the two parties stand on two sides, so at two places
+pub trade-apart : {k : Market} {l : List Entry} {i j : ℕ} {e y : Entry} → First (stirring k l) l i e → BestContra (e .sell) false l j y → i ≡ j → ⊥
+trade-apart {l = l} {j = j} {e = e} {y = y} c b h =
+    let same : e ≡ y = at-same l j e y (subst (λ (n : ℕ). At l n e) h (c .there)) (b .chosen .there) in
+    never-facing (e .sell) (subst (λ (z : Entry). against (e .sell) z ≡ true) (sym same) (and-left (against (e .sell) y) true (b .chosen .passes)))
+
 trade-less : {k : Market} {l : List Entry} {i j : ℕ} {e y : Entry} → First (stirring k l) l i e → BestContra (e .sell) false l j y
     → length (hitBoth i j (min (e .quantity) (y .quantity)) l) < length l
-trade-less {l = l} {i = i} {j = j} {e = e} {y = y} c b = trade-shorter i j l e y (c .there) (b .chosen .there) apart
-  where
-    apart : i ≡ j → ⊥
-    apart h =
-        let same : e ≡ y = at-same l j e y (subst (λ (n : ℕ). At l n e) h (c .there)) (b .chosen .there) in
-        never-facing (e .sell) (subst (λ (z : Entry). against (e .sell) z ≡ true) (sym same) (and-left (against (e .sell) y) true (b .chosen .passes)))
+trade-less {l = l} {i = i} {j = j} {e = e} {y = y} c b = trade-shorter i j l e y (c .there) (b .chosen .there) (trade-apart c b)
 
 -- ---- a quote that stirs ----
 
