@@ -2,13 +2,13 @@
 -- The trainee is party 1, a maker, who buys; messages are the packed bytes. "Passes" means: not stopped by that test (docs/DECISIONS), so that each row names
 -- what price protection says, 0 where the quote passes, beside the reports.
 -- Assumes nothing.
-use Prim.Native.Nat.{ℕ, _≤_}
+use Prim.Native.Nat.{ℕ, _-_, _≤_}
 use mathlib.Core.Path.{_≡_, refl, ap, _∙_}
 use mathlib.Core.Bool.{Bool, true, false}
 use mathlib.Core.List.{List, [], _∷_, map}
 use mathlib.Core.Option.{Option, none, some}
 use native.Mathlib.Omega.{arith}
-use lib.ListN.{length, replicate}
+use lib.ListN.{length, replicate, set}
 use Rattle.lists.specs.Places.{without}
 use Rattle.lists.specs.Tests.{all, any, pairs, All}
 use Rattle.lists.specs.Choose.{scan, first}
@@ -31,10 +31,10 @@ use Rattle.settling_theory.specs.Settle.{nextEase, easings, nextStir, stirrings
 use Rattle.arrival.specs.Cancel.{cut}
 use Rattle.arrival.specs.Take.{nextTake, chances, taken, took}
 use Rattle.arrival.specs.Post.{stopFor}
-use Rattle.arrival.specs.Arrive.{rejectedBy, entered, stopsAtOnce, protectionFor, rejection, arrived}
+use Rattle.arrival.specs.Arrive.{rejectedBy, entered, stopsAtOnce, protectionFor, rejection, arrived, blocks}
 use Rattle.series.specs.Series.{soundTerms, soundPhase, soundSeries}
 use Rattle.handler.specs.Refuse.{refusalOf}
-use Rattle.handler.specs.Accept.{ownPart, termsAfter, done, comer}
+use Rattle.handler.specs.Accept.{ownPart, termsAfter, blockedAfter, done, comer}
 use Rattle.packing.specs.declared.message.Event.{Event}
 use Rattle.packing.specs.declared.report.Report.{Report}
 use Rattle.packing.specs.declared.report.Report.the-variants.{Rejected, Traded, Rested, Cancelled}
@@ -56,8 +56,8 @@ use Rattle.handler.proofs.Demands.{reportsOf, reports-counted, reports-
 pub data Letter : Type 0 where
   example-a example-b example-c example-d example-e example-f example-g example-h example-i example-j example-k example-l : Letter
 
--- an example: the series before, as its numbers and the entries that rest; the message; what price protection says; the reports; and the entries that rest
--- afterwards
+-- an example: the series before, as its numbers and the entries that rest, with nobody blocked; the message; what price protection says; the reports; and the
+-- series afterwards, as the entries that rest, its numbers and its block list
 pub record Example : Type 0 where
   pub name : Letter
   pub terms : Terms
@@ -66,9 +66,11 @@ pub record Example : Type 0 where
   pub barred : ℕ
   pub reports : List Report
   pub after : List Entry
+  pub numbers : Terms
+  pub blocked : List Bool
 
-abbrev row : Letter → Terms → List Entry → List ℕ → ℕ → List Report → List Entry → Example
-row name terms book message barred reports after = record {
+abbrev row : Letter → Terms → List Entry → List ℕ → ℕ → List Report → List Entry → Terms → List Bool → Example
+row name terms book message barred reports after numbers blocked = record {
   name = name;
   terms = terms;
   book = book;
@@ -76,7 +78,16 @@ row name terms book message barred reports after = record {
   barred = barred;
   reports = reports;
   after = after;
+  numbers = numbers;
+  blocked = blocked;
 }
+
+-- nobody is blocked; this maker alone is
+abbrev unblocked : List Bool
+unblocked = replicate 16 false
+
+abbrev blockedAlone : ℕ → List Bool
+blockedAlone maker = set unblocked (maker - 1) true
 
 -- an open call series, exempt, with M 1: K, the away bid and offer, and how many entry numbers have been given
 abbrev calls : ℕ → ℕ → ℕ → ℕ → Terms
@@ -93,9 +104,9 @@ calls k bid offer given = record {
   given = given;
 }
 
--- an open put series, not exempt, with M 1 and K 10, and no away price
-abbrev puts : ℕ → Terms
-puts strike = record {
+-- an open put series, not exempt, with M 1 and K 10, and no away price: its strike, and how many entry numbers have been given
+abbrev puts : ℕ → ℕ → Terms
+puts strike given = record {
   put = true;
   exempt = false;
   m = 1;
@@ -105,7 +116,7 @@ puts strike = record {
   bid = 0;
   offer = 0;
   underlying = 0;
-  given = 0;
+  given = given;
 }
 
 -- orders of party 50 in the book: number, side, price and quantity
@@ -167,103 +178,103 @@ table =
     row example-a (calls 3 0 100 1) (order 1 true 99 10 ∷ [])
     (48 ∷ 32 ∷ 3 ∷ 40 ∷ 0 ∷ 20 ∷ 0 ∷ 0 ∷ 0 ∷ 0 ∷ 0 ∷ [])
     0 (rests 2 98 98 5 ∷ [])
-    (order 1 true 99 10 ∷ slid 3 2 101 5 98 98 ∷ [])
+    (order 1 true 99 10 ∷ slid 3 2 101 5 98 98 ∷ []) (calls 3 0 100 2) unblocked
     -- b: 102 rejected 22
     ∷ row example-b (calls 3 0 100 1) (order 1 true 99 10 ∷ [])
     (48 ∷ 32 ∷ 3 ∷ 48 ∷ 0 ∷ 20 ∷ 0 ∷ 0 ∷ 0 ∷ 0 ∷ 0 ∷ [])
     0 (rejects 22 2 102 5 ∷ [])
-    (order 1 true 99 10 ∷ [])
+    (order 1 true 99 10 ∷ []) (calls 3 0 100 2) unblocked
     -- c: one contract at 99: MMRP buy 2 at 102 trades 1, rests 99/100
     ∷ row example-c (calls 3 0 100 1) (order 1 true 99 1 ∷ [])
     (64 ∷ 32 ∷ 3 ∷ 48 ∷ 0 ∷ 8 ∷ 0 ∷ 0 ∷ 0 ∷ 0 ∷ 0 ∷ [])
     0 (trades 2 1 99 1 ∷ rests 2 99 100 1 ∷ [])
-    (slid 4 2 102 1 99 100 ∷ [])
+    (slid 4 2 102 1 99 100 ∷ []) (calls 3 0 100 2) unblocked
     -- d: at 103 trades 1, rest cancelled 22
     ∷ row example-d (calls 3 0 100 1) (order 1 true 99 1 ∷ [])
     (64 ∷ 32 ∷ 3 ∷ 56 ∷ 0 ∷ 8 ∷ 0 ∷ 0 ∷ 0 ∷ 0 ∷ 0 ∷ [])
     0 (trades 2 1 99 1 ∷ cancels 22 2 103 1 ∷ [])
-    []
+    [] (calls 3 0 100 2) unblocked
     -- e: book 198 x 222, away 197 x 223: MMALO buy 225 rests 221/221
     ∷ row example-e (calls 10 197 223 2) (order 1 false 198 10 ∷ order 2 true 222 10 ∷ [])
     (48 ∷ 32 ∷ 7 ∷ 8 ∷ 0 ∷ 20 ∷ 0 ∷ 0 ∷ 0 ∷ 0 ∷ 0 ∷ [])
     0 (rests 3 221 221 5 ∷ [])
-    (order 1 false 198 10 ∷ order 2 true 222 10 ∷ slid 3 3 225 5 221 221 ∷ [])
+    (order 1 false 198 10 ∷ order 2 true 222 10 ∷ slid 3 3 225 5 221 221 ∷ []) (calls 10 197 223 3) unblocked
     -- f: A 220, empty book: plain buy 220 rejected 20
     ∷ row example-f (calls 10 0 220 0) ([])
     (16 ∷ 32 ∷ 6 ∷ 224 ∷ 0 ∷ 20 ∷ 0 ∷ 0 ∷ 0 ∷ 0 ∷ 0 ∷ [])
     0 (rejects 20 1 220 5 ∷ [])
-    []
+    [] (calls 10 0 220 1) unblocked
     -- g: 219 rests
     ∷ row example-g (calls 10 0 220 0) ([])
     (16 ∷ 32 ∷ 6 ∷ 216 ∷ 0 ∷ 20 ∷ 0 ∷ 0 ∷ 0 ∷ 0 ∷ 0 ∷ [])
     0 (rests 1 219 219 5 ∷ [])
-    (plain 1 219 5 ∷ [])
+    (plain 1 219 5 ∷ []) (calls 10 0 220 1) unblocked
     -- h: A 1: MMRP buy 1 rejected 23
     ∷ row example-h (calls 10 0 1 0) ([])
     (64 ∷ 32 ∷ 0 ∷ 8 ∷ 0 ∷ 20 ∷ 0 ∷ 0 ∷ 0 ∷ 0 ∷ 0 ∷ [])
     0 (rejects 23 1 1 5 ∷ [])
-    []
+    [] (calls 10 0 1 1) unblocked
     -- i: NBO 100, the away offer: bid 200 rejected 24
     ∷ row example-i (calls 10 0 100 0) ([])
     (16 ∷ 32 ∷ 6 ∷ 64 ∷ 0 ∷ 20 ∷ 0 ∷ 0 ∷ 0 ∷ 0 ∷ 0 ∷ [])
     24 (rejects 24 1 200 5 ∷ [])
-    []
+    [] (calls 10 0 100 1) unblocked
     -- i: 199 passes: 24 does not stop it; then 20 does, since the away offer is the NBO
     ∷ row example-i (calls 10 0 100 0) ([])
     (16 ∷ 32 ∷ 6 ∷ 56 ∷ 0 ∷ 20 ∷ 0 ∷ 0 ∷ 0 ∷ 0 ∷ 0 ∷ [])
     0 (rejects 20 1 199 5 ∷ [])
-    []
+    [] (calls 10 0 100 1) unblocked
     -- i: the same with a displayed sell as the NBO: 200 rejected 24
     ∷ row example-i (calls 10 0 0 1) (order 1 true 100 10 ∷ [])
     (16 ∷ 32 ∷ 6 ∷ 64 ∷ 0 ∷ 20 ∷ 0 ∷ 0 ∷ 0 ∷ 0 ∷ 0 ∷ [])
     24 (rejects 24 2 200 5 ∷ [])
-    (order 1 true 100 10 ∷ [])
+    (order 1 true 100 10 ∷ []) (calls 10 0 0 2) unblocked
     -- i: 199 passes, and trades
     ∷ row example-i (calls 10 0 0 1) (order 1 true 100 10 ∷ [])
     (16 ∷ 32 ∷ 6 ∷ 56 ∷ 0 ∷ 20 ∷ 0 ∷ 0 ∷ 0 ∷ 0 ∷ 0 ∷ [])
     0 (trades 2 1 100 5 ∷ [])
-    (order 1 true 100 5 ∷ [])
+    (order 1 true 100 5 ∷ []) (calls 10 0 0 2) unblocked
     -- j: NBO 101, the away offer: bid 152 rejected 24
     ∷ row example-j (calls 10 0 101 0) ([])
     (16 ∷ 32 ∷ 4 ∷ 192 ∷ 0 ∷ 20 ∷ 0 ∷ 0 ∷ 0 ∷ 0 ∷ 0 ∷ [])
     24 (rejects 24 1 152 5 ∷ [])
-    []
+    [] (calls 10 0 101 1) unblocked
     -- j: 151 passes: 24 does not stop it; then 20 does
     ∷ row example-j (calls 10 0 101 0) ([])
     (16 ∷ 32 ∷ 4 ∷ 184 ∷ 0 ∷ 20 ∷ 0 ∷ 0 ∷ 0 ∷ 0 ∷ 0 ∷ [])
     0 (rejects 20 1 151 5 ∷ [])
-    []
+    [] (calls 10 0 101 1) unblocked
     -- j: the same with a displayed sell as the NBO: 152 rejected 24
     ∷ row example-j (calls 10 0 0 1) (order 1 true 101 10 ∷ [])
     (16 ∷ 32 ∷ 4 ∷ 192 ∷ 0 ∷ 20 ∷ 0 ∷ 0 ∷ 0 ∷ 0 ∷ 0 ∷ [])
     24 (rejects 24 2 152 5 ∷ [])
-    (order 1 true 101 10 ∷ [])
+    (order 1 true 101 10 ∷ []) (calls 10 0 0 2) unblocked
     -- j: 151 passes, and trades
     ∷ row example-j (calls 10 0 0 1) (order 1 true 101 10 ∷ [])
     (16 ∷ 32 ∷ 4 ∷ 184 ∷ 0 ∷ 20 ∷ 0 ∷ 0 ∷ 0 ∷ 0 ∷ 0 ∷ [])
     0 (trades 2 1 101 5 ∷ [])
-    (order 1 true 101 5 ∷ [])
+    (order 1 true 101 5 ∷ []) (calls 10 0 0 2) unblocked
     -- k: put, strike 200, not exempt: bid 200 rejected 26
-    ∷ row example-k (puts 200) ([])
+    ∷ row example-k (puts 200 0) ([])
     (16 ∷ 32 ∷ 6 ∷ 64 ∷ 0 ∷ 20 ∷ 0 ∷ 0 ∷ 0 ∷ 0 ∷ 0 ∷ [])
     26 (rejects 26 1 200 5 ∷ [])
-    []
+    [] (puts 200 1) (blockedAlone 1)
     -- k: 199 passes, and rests
-    ∷ row example-k (puts 200) ([])
+    ∷ row example-k (puts 200 0) ([])
     (16 ∷ 32 ∷ 6 ∷ 56 ∷ 0 ∷ 20 ∷ 0 ∷ 0 ∷ 0 ∷ 0 ∷ 0 ∷ [])
     0 (rests 1 199 199 5 ∷ [])
-    (plain 1 199 5 ∷ [])
+    (plain 1 199 5 ∷ []) (puts 200 1) unblocked
     -- l: dark sell 221 x 10, sell 222 x 10, no away: MMLO buy 222 x 20 trades 10 at 222, rest cancelled 21
     ∷ row example-l (calls 10 0 0 2) (dark 1 221 10 ∷ order 2 true 222 10 ∷ [])
     (32 ∷ 32 ∷ 6 ∷ 240 ∷ 0 ∷ 80 ∷ 0 ∷ 0 ∷ 0 ∷ 0 ∷ 0 ∷ [])
     0 (trades 3 2 222 10 ∷ cancels 21 3 222 10 ∷ [])
-    (dark 1 221 10 ∷ [])
+    (dark 1 221 10 ∷ []) (calls 10 0 0 3) unblocked
     ∷ []
 
 -- ---- what is said of a row ----
 
 abbrev pub before : Example → Series
-before r = record { terms = r .terms; blocked = replicate 16 false; book = bookOf (r .book) }
+before r = record { terms = r .terms; blocked = unblocked; book = bookOf (r .book) }
 
 pub record Outcome : Type 0 where
   -- the series before is sound
@@ -272,22 +283,42 @@ pub record Outcome : Type 0 where
   pub barred : ℕ
   pub reports : List Report
   pub after : List Entry
+  pub numbers : Terms
+  pub blocked : List Bool
 
 abbrev outcomeOf : Series → Option Event → Outcome
-outcomeOf s none = record { sound = soundSeries s; refusal = 1; barred = 0; reports = []; after = entriesOf (s .book) }
+outcomeOf s none = record {
+  sound = soundSeries s;
+  refusal = 1;
+  barred = 0;
+  reports = [];
+  after = entriesOf (s .book);
+  numbers = s .terms;
+  blocked = s .blocked;
+}
 outcomeOf s (some e) = record {
   sound = soundSeries s;
   refusal = refusalOf s (askOf e);
   barred = protectionFor (s .terms) (comer (s .terms .given) (askOf e)) (entriesOf (s .book));
   reports = reportsOf s (some e);
   after = done (s .terms) (askOf e) (entriesOf (s .book)) .final;
+  numbers = termsAfter (s .terms) (askOf e);
+  blocked = blockedAfter (s .terms) (askOf e) (entriesOf (s .book)) (s .blocked);
 }
 
 abbrev pub outcome : Example → Outcome
 outcome r = outcomeOf (before r) (unpackOf messages (r .message))
 
 abbrev pub expected : Example → Outcome
-expected r = record { sound = true; refusal = 0; barred = r .barred; reports = r .reports; after = r .after }
+expected r = record {
+  sound = true;
+  refusal = 0;
+  barred = r .barred;
+  reports = r .reports;
+  after = r .after;
+  numbers = r .numbers;
+  blocked = r .blocked;
+}
 
 -- THE THEOREM: every row of the table comes out as document 01 says
 pub examples : map outcome table ≡ map expected table
@@ -295,7 +326,7 @@ unfolding without all any pairs scan first still leading runFor ran thingOf unpa
     lastPrice apart allowed rowOf minded upTo shortOf aimDisplay aimWorking stopped figures24 limited24 protection marketable restingPrices atRest stirsAt
     slides easedTo eases entriesOf bookOf hit hitBoth cost priority bestContra nearest hiddenWithin quoteIn lowest pricedAs soundEntry soundPair soundEntries
     soundBook nextEase easings nextStir stirrings eased stirred settled cut nextTake chances taken took stopFor rejectedBy entered stopsAtOnce protectionFor
-    rejection arrived soundTerms soundPhase soundSeries refusalOf ownPart termsAfter done
+    rejection arrived soundTerms soundPhase soundSeries refusalOf ownPart termsAfter blocks blockedAfter done
 examples = refl
 
 -- ---- so the handler answers, in any room that is large enough ----
@@ -305,6 +336,8 @@ pub record Shows (r : Example) (h : Handled) : Type 0 where
   pub count : h .answer .count ≡ length (r .reports)
   pub reports : readBack (h .answer .count) (h .room) ≡ map some (r .reports)
   pub after : entriesOf (h .answer .series .book) ≡ r .after
+  pub numbers : h .answer .series .terms ≡ r .numbers
+  pub blocked : h .answer .series .blocked ≡ r .blocked
 
 row-shows : (r : Example) (room : List ℕ) → roomSize ≤ length room → outcome r ≡ expected r → Shows r (handled (before r) (r .message) room)
 row-shows r room space same = by (unpackOf messages (r .message)) refl same
@@ -322,6 +355,8 @@ row-shows r room space same = by (unpackOf messages (r .message)) refl same
           reports = reports-told (before r) (r .message) room zero ∙ ap (map some) told;
           after = ap (λ (h : Handled). entriesOf (h .answer .series .book)) answer
               ∙ entries-of-book (done (before r .terms) (askOf e) (entriesOf (before r .book)) .final) ∙ ap (λ (o : Outcome). o .after) k;
+          numbers = ap (λ (h : Handled). h .answer .series .terms) answer ∙ ap (λ (o : Outcome). o .numbers) k;
+          blocked = ap (λ (h : Handled). h .answer .series .blocked) answer ∙ ap (λ (o : Outcome). o .blocked) k;
         }
 
 each-same : (l : List Example) → map outcome l ≡ map expected l → All (λ (r : Example). outcome r ≡ expected r) l

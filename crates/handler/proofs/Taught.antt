@@ -32,7 +32,8 @@ use Rattle.handler.proofs.Stages.{own-enters}
 use Rattle.handler.proofs.Demands.{reportsIn, OfReport, EachReport, each-told}
 use Rattle.handler.proofs.ForTheClass as class
 use Rattle.handler.proofs.TaughtWords.{comerOf, TakesSame, TakesBoth, TakesOpposite, LeavesQuotes}
-use Rattle.handler.proofs.TaughtLaws.{RejectsAs, CancelsAs, moves-priced, done-says, rejects-as, cancels-as, takes-same, takes-both, takes-opposite, leaves-quotes}
+use Rattle.handler.proofs.TaughtLaws.{RejectsAs, CancelsAs, moves-priced, done-says, rejects-as, cancels-as}
+use Rattle.handler.proofs.TaughtLaws.{takes-same, takes-both, takes-opposite, leaves-quotes}
 
 -- ---- THE THEOREMS, of what is answered ----
 

@@ -1,5 +1,5 @@
--- How an accepted message comes to what the class is taught: the reports of its own part are those of the parts (ForTheClass of arrival), and settling behind it
--- only trades and moves.
+-- How an accepted message comes to what the class is taught: the reports of its own part are those of arrival (ForTheClass there), and settling behind it only
+-- trades and moves.
 -- Assumes nothing.
 use Prim.Native.Nat.{ℕ, _+_, _≤_}
 use mathlib.Core.Path.{_≡_, refl, sym, subst, ap, _∙_}

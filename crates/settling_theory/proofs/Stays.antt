@@ -33,7 +33,8 @@ stir-stays {l = l} n (traded-at {i = i} {j = j} {e = e} {y = y} c m b) h = go (e
     go true q p′ q′ = inr (inl (eqb-true (e .number) n q))
     go false q true q′ = inr (inr (eqb-true (y .number) n q′))
     go false q false q′ =
-        inl (trade-stays i j (min (e .quantity) (y .quantity)) l e y n (c .there) (b .chosen .there) (trade-apart c b) (eqb-false (e .number) n q) (eqb-false (y .number) n q′) h)
+        inl (trade-stays i j (min (e .quantity) (y .quantity)) l e y n (c .there) (b .chosen .there) (trade-apart c b)
+        (eqb-false (e .number) n q) (eqb-false (y .number) n q′) h)
 stir-stays {l = l} n (moved-at {i = i} {e = e} c m) h = inl (requeue-stays i l e _ n (c .there) refl h)
 
 -- AN ENTRY LEAVES IN SETTLING ONLY BY A TRADE THAT NAMES IT
