@@ -4,7 +4,6 @@ use Prim.Native.Nat.{ℕ, zero, suc, _≤_, _<_}
 use mathlib.Core.Bool.{Bool, true, false, cond, not}
 use mathlib.Core.List.{List}
 use native.Mathlib.Omega.{arith}
-use Rattle.prices.specs.declared.Prices.{Prices}
 use Rattle.lists.specs.Tests.{All}
 use Rattle.lists.specs.Choose.{Found, nowhere, found}
 use Rattle.lists.specs.Run.{Ran, still, andThen}
@@ -26,10 +25,10 @@ use Rattle.arrival.proofs.CutLaws.{quote-all}
 use Rattle.arrival.proofs.SweepLaws.{SweepStep, sweeps, sweep-step, sweep-run}
 use Rattle.arrival.proofs.ArriveTells.{tradesOf}
 
--- ---- who rests after an arrival: what rested before, perhaps with fewer contracts, and the arriving entry ----
+-- ---- who rests after an arrival: what rested before, perhaps with fewer contracts, and the arriving entry, at its prices before some book ----
 
 module _ (t : Terms) (e : Entry) (l : List Entry) (P : Entry → Type 0) (lessens : (q : ℕ) (x : Entry) → q < x .quantity → P x → P (lessened q x))
-    (posts : (left : ℕ) (p : Prices) → P (asPosted e left p)) where
+    (posts : (left : ℕ) (r : List Entry) → P (asPosted e left (pricesOf t e r))) where
   quotes-all : (why : ℕ) (side : Bool) (r : List Entry) → All P r → All P (ofQuotes e (cutQuote why (e .party) side) r .final)
   unfolding still
   quotes-all why side r a =
@@ -39,7 +38,7 @@ module _ (t : Terms) (e : Entry) (l : List Entry) (P : Entry → Type 0) (lessen
   finished-all : (left why : ℕ) (r : List Entry) → All P r → All P (finished t e left why r .final)
   unfolding still
   finished-all zero why r a = a
-  finished-all (suc left) zero r a = all-snoc P r (asPosted e (suc left) (pricesOf t e r)) a (posts (suc left) (pricesOf t e r))
+  finished-all (suc left) zero r a = all-snoc P r (asPosted e (suc left) (pricesOf t e r)) a (posts (suc left) r)
   finished-all (suc left) (suc why) r a = quotes-all 29 (not (e .sell)) r a
 
   entered-all : All P l → All P (entered t e l .final)
@@ -60,9 +59,9 @@ module _ (t : Terms) (e : Entry) (l : List Entry) (P : Entry → Type 0) (lessen
       pick true = quote-all 30 (e .party) true (cutQuote 30 (e .party) false l .final) P (quote-all 30 (e .party) false l P a)
       pick false = quote-all 30 (e .party) (e .sell) l P a
 
-  pub arrived-all : All P l → All P (arrived t e l .final)
+  pub arrived-rests : All P l → All P (arrived t e l .final)
   unfolding arrived
-  arrived-all a = go (rejection t e l)
+  arrived-rests a = go (rejection t e l)
     where
       go : (why : ℕ) → All P (arrivedAs t e l why .final)
       go zero = entered-all a

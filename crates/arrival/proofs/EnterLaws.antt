@@ -38,16 +38,18 @@ use Rattle.telling.specs.Stage.{Roomy, Staged, Put}
 use Rattle.soundness_theory.proofs.MarketFacts.{MarketFacts, market-facts, sound-for}
 use Rattle.terms.specs.declared.Terms.{Terms}
 use Rattle.arrival.specs.declared.Facing.{Facing}
-use Rattle.arrival.specs.declared.take.Trade.{Trade}
+use Rattle.arrival.specs.declared.take.Next.{Next}
+use Rattle.arrival.specs.declared.take.Next.the-variants.{Nothing, With}
 use Rattle.terms.specs.Terms.{marketOf}
 use Rattle.arrival.specs.Cancel.{Asks, cutQuote}
 use Rattle.arrival.specs.Take.{Taking, bound, offered, nextTake, chances, taken, took}
 use Rattle.arrival.specs.Post.{pricesBefore, pricesOf, asPosted, stopFor, Posts}
 use Rattle.arrival.specs.Arrive.{reported, ofQuotes, bothQuotes, rejectedBy, posted, cancelledRest, finished, entered}
 use Rattle.arrival.specs.Arrive.{noneTraded, stopsAtOnce, protectionBefore, protectionFor, orElse, rejection, arrivedAs, arrived}
-use Rattle.arrival.specs.Asks.{trades, Arriving, Enters, tradeAs, NextTrade, Rests, Finishes}
+use Rattle.arrival.specs.Asks.{trades, Arriving, Enters, nextTrade, tradeAs, Rests, Finishes}
 use Rattle.telling.proofs.StageLaws.{roomy-first, staged-then, staged-room, staged-none, staged-as, staged-go, roomy-as}
 use Rattle.arrival.proofs.TakeLaws.{take-falls, takes-now}
+use Rattle.arrival.proofs.TradeLaws.{next-take}
 use Rattle.arrival.proofs.Untraded.{far-off}
 use Rattle.arrival.proofs.PostingLaws.{unminded}
 
@@ -113,6 +115,11 @@ pub protected-by : {t : Terms} {e : Entry} {f : Facing} {b : Book} → Enters t 
 unfolding protectionFor
 protected-by {t} {e} n = ap (protectionBefore t e) (n .faces .national)
 
+-- whether there is a next trade
+abbrev pub going : Next → Bool
+going Nothing = false
+going (With r) = true
+
 module _ (t : Terms) (e : Entry) (l : List Entry) where
   -- ---- whether it trades ----
 
@@ -120,18 +127,17 @@ module _ (t : Terms) (e : Entry) (l : List Entry) where
   unfolding took still
   trades-none q = rw q refl
 
-  pub trades-now : (k : Market) (cap : ℕ) (r : Trade) → minds (e .kind) ≡ false → k ≡ marketOf t → cap ≡ bound k e
-      → NextTrade cap e (record { left = e .quantity; book = l }) r → r .going ≡ trades t e l
+  pub trades-now : (k : Market) (cap : ℕ) (next : Next) → minds (e .kind) ≡ false → k ≡ marketOf t → cap ≡ bound k e
+      → next ≡ nextTrade cap e (record { left = e .quantity; book = l }) → going next ≡ trades t e l
   unfolding took taken still leading
-  trades-now k cap r q p w x = rw (q, ← p, ← w) (pick (r .going) (x .is))
+  trades-now k cap next q p w x = rw (q, ← p, ← w) (pick next (next-take cap e from ∙ ap (tradeAs e from) (sym x)))
     where
       from : Taking
       from = record { left = e .quantity; book = l }
 
-      pick : (g : Bool) → nextTake cap e from ≡ tradeAs e from g (r .at) (r .entry) (r .quantity)
-          → g ≡ not (noneTraded (ran (nextTake cap e) chances from .records))
-      pick false h = ap (λ (y : Ran Taking Report). not (noneTraded (y .records))) (sym (run-stop (nextTake cap e) chances from h))
-      pick true h =
+      pick : (n : Next) → nextTake cap e from ≡ tradeAs e from n → going n ≡ not (noneTraded (ran (nextTake cap e) chances from .records))
+      pick Nothing h = ap (λ (y : Ran Taking Report). not (noneTraded (y .records))) (sym (run-stop (nextTake cap e) chances from h))
+      pick (With r) h =
           ap (λ (y : Ran Taking Report). not (noneTraded (y .records)))
           (sym (run-go (nextTake cap e) chances (λ _. Unit {0}) (take-falls cap e) from (traded e (r .entry) (r .quantity)) _ tt h))
 

@@ -31,6 +31,7 @@ use Rattle.book.proofs.LookLaws.{Offered, contra-price-tells, quote-tells}
 use Rattle.soundness_theory.proofs.Facts.{AsItSlides, Clear, Sound}
 use Rattle.telling.specs.Tell.{rejected, rested, cancelled}
 use Rattle.soundness_theory.proofs.MarketFacts.{MarketFacts, sound-for}
+use Rattle.telling.proofs.Staying.{NoTrade}
 use Rattle.terms.specs.declared.Terms.{Terms}
 use Rattle.terms.specs.Terms.{marketOf}
 use Rattle.arrival.specs.Cancel.{cutQuote}
@@ -226,11 +227,11 @@ LeavesQuotes n (Cancelled why s party number limit quantity) = number ≡ n
 pub orders-leave-quotes : (t : Terms) (e : Entry) (l : List Entry) → quote e ≡ false → All (LeavesQuotes (e .number)) (arrived t e l .records)
 orders-leave-quotes t e l q =
     arrived-says t e l (LeavesQuotes (e .number)) (record {
-      rejects = λ p why is stops. clash p q;
-      cancels = λ p why own s x o. clash p q;
+      rejects = λ p why. clash p q;
+      cancels = λ p why s x o. clash p q;
       trades = λ mi y n w. refl;
       rests = λ left h. refl;
-      stops = λ why left r. refl;
+      stops = λ why left. refl;
     })
 
 -- and the book afterwards is what its trades left of the book before, with the order behind it if it rests
@@ -252,23 +253,15 @@ order-book t e l q = rw (entered-is t e l (order-passes t e l q), q) (go (x .fin
 
 -- ---- "Then MMALO: aims, no trade." ----
 
-abbrev pub NoTrade : Report → Type 0
-NoTrade Noted = Unit {0}
-NoTrade (Rejected why s party number limit quantity) = Unit {0}
-NoTrade (Traded s party number other price quantity) = ⊥
-NoTrade (Rested s party number display working quantity) = Unit {0}
-NoTrade (Repriced s party number display working quantity) = Unit {0}
-NoTrade (Cancelled why s party number limit quantity) = Unit {0}
-
 -- AN MMALO ADDS ON ARRIVAL: whatever the book, none of the reports of its arrival is of a trade (of all that it does while it rests: handler, ForTheClass)
 pub adds-on-arrival : (t : Terms) (e : Entry) (l : List Entry) → minds (e .kind) ≡ true → All NoTrade (arrived t e l .records)
 adds-on-arrival t e l k =
     arrived-says t e l NoTrade (record {
-      rejects = λ p why is stops. tt;
-      cancels = λ p why own s x o. tt;
+      rejects = λ p why. refl;
+      cancels = λ p why s x o. refl;
       trades = λ mi y n w. clash k mi;
-      rests = λ left h. tt;
-      stops = λ why left r. tt;
+      rests = λ left h. refl;
+      stops = λ why left. refl;
     })
 
 -- ---- "C the lowest working price of any sell in the book, dark included" ----
@@ -377,9 +370,9 @@ module _ (t : Terms) (e : Entry) (l : List Entry) (a : Arriving t e l) (minding 
 pub priced-off-dark : {t : Terms} {e : Entry} {l : List Entry} → Arriving t e l → minds (e .kind) ≡ true → All (PricedOff t e l) (arrived t e l .records)
 priced-off-dark {t} {e} {l} a k =
     arrived-says t e l (PricedOff t e l) (record {
-      rejects = λ p why is stops. tt;
-      cancels = λ p why own s x o. tt;
+      rejects = λ p why. tt;
+      cancels = λ p why s x o. tt;
       trades = λ mi y n w. tt;
       rests = λ left h. rests-so t e l a k left h;
-      stops = λ why left r. tt;
+      stops = λ why left. tt;
     })

@@ -7,10 +7,12 @@ pub mod Untraded
 pub mod CutLaws
 pub mod SweepLaws
 pub mod PostLaws
+pub mod StopReasons
 pub mod ArriveKeeps
 pub mod Leaves
 pub mod OwnSide
 pub mod ArriveTells
+pub mod ReasonsTold
 pub mod Afterwards
 pub mod Within
 pub mod Stays

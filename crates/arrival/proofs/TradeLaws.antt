@@ -1,14 +1,14 @@
 -- The next trade as code finds it, and the loop over it.
 -- Assumes nothing.
-use Prim.Native.Nat.{ℕ, _+_, _-_, _<_, min}
-use mathlib.Core.Path.{_≡_, refl, sym, ap, _∙_}
+use Prim.Native.Nat.{ℕ, _+_, _-_, _≤_, _<_, min}
+use mathlib.Core.Path.{_≡_, refl, sym, ap, subst, _∙_}
 use mathlib.Core.Bool.{Bool, true, false, not, _&&_, _||_}
 use mathlib.Core.List.{List, [], _∷_}
 use native.Mathlib.Omega.{arith}
 use lib.Dec.{eqb}
-use lib.ListN.{getD}
+use lib.ListN.{length, getD}
 use Rattle.prices.specs.Side.{reaches}
-use Rattle.lists.specs.Choose.{nowhere}
+use Rattle.lists.specs.Choose.{Found, nowhere, found}
 use Rattle.lists.specs.Run.{stop, go}
 use Rattle.book.specs.declared.Entry.{Entry}
 use Rattle.packing.specs.Room.{written}
@@ -21,28 +21,57 @@ use Rattle.telling.specs.Tell.{traded}
 use Rattle.telling.specs.Stage.{Roomy}
 use Rattle.book.specs.Look.{bestContra}
 use Rattle.arrival.specs.declared.take.Trade.{Trade}
-use Rattle.arrival.specs.Take.{Taking, shownOnly, nextTake, chances, taken}
-use Rattle.arrival.specs.Asks.{NextTrade, Takes, TookAs, takingOf}
+use Rattle.arrival.specs.declared.take.Next.{Next}
+use Rattle.arrival.specs.declared.take.Next.the-variants.{Nothing, With}
+use Rattle.arrival.specs.Take.{Taking, shownOnly, tradeWith, takeAt, nextTake, chances, taken}
+use Rattle.arrival.specs.Asks.{Takes, TookAs, takingOf, tradeIf, tradeAt, nextTrade, tradeAs}
 use Rattle.book.proofs.RankLaws.{Ranked}
+use Rattle.book.proofs.LookLaws.{ContraTells, contra-tells}
+use Rattle.lists.proofs.PlaceLaws.{at-inside}
 use Rattle.telling.proofs.GoingLaws.{Going, going-start, going-end, going-less, going-room, going-on}
 use Rattle.arrival.proofs.TakeLaws.{take-falls}
 
 module _ (cap : ℕ) (e : Entry) (t : Taking) where
+  -- THE RULE'S STEP IS WHAT THE NEXT TRADE SAYS, in each case of the answer
+  pub next-take : nextTake cap e t ≡ tradeAs e t (nextTrade cap e t)
+  unfolding nextTake nextTrade
+  next-take = at (bestContra (e .sell) (shownOnly e) (t .book))
+    where
+      pick : (j : ℕ) (y : Entry) (b : Bool) → tradeWith e t j y b ≡ tradeAs e t (tradeIf t j y b)
+      pick j y false = refl
+      pick j y true = refl
+
+      at : (f : Found Entry) → takeAt cap e t f ≡ tradeAs e t (tradeAt cap e t f)
+      at nowhere = refl
+      at (found j y) = pick j y (not (eqb (t .left) 0) && reaches (e .sell) cap (y .working))
+
+  -- a trade is with an entry of the book, for no more than is left
+  abbrev Within : Next → Type 0
+  Within Nothing = Unit {0}
+  Within (With x) = (x .at < length (t .book)) × (x .quantity ≤ t .left)
+
+  pub trade-within : (x : Trade) → With x ≡ nextTrade cap e t → Within (With x)
+  unfolding nextTrade
+  trade-within x h = subst Within (sym h) (at (bestContra (e .sell) (shownOnly e) (t .book)) (contra-tells (e .sell) (shownOnly e) (t .book)))
+    where
+      pick : (j : ℕ) (y : Entry) → j < length (t .book) → (b : Bool) → Within (tradeIf t j y b)
+      pick j y c false = tt
+      pick j y c true = (c, omega arith)
+
+      at : (f : Found Entry) → ContraTells (e .sell) (shownOnly e) (t .book) f → Within (tradeAt cap e t f)
+      at nowhere c = tt
+      at (found j y) c = pick j y (at-inside (t .book) j y (c .chosen .there)) (not (eqb (t .left) 0) && reaches (e .sell) cap (y .working))
+
   -- nobody to trade with
-  pub no-contra-left : (r : Trade) → bestContra (e .sell) (shownOnly e) (t .book) ≡ nowhere → r .going ≡ false → r .quantity ≡ 0 → NextTrade cap e t r
-  unfolding nextTake
-  no-contra-left r b g q = record { is = rw (b, g); inside = λ h. absurd (let z : _≡_ {A = ℕ} 0 1 = cc in omega arith); most = omega arith }
+  pub no-contra-left : bestContra (e .sell) (shownOnly e) (t .book) ≡ nowhere → Nothing ≡ nextTrade cap e t
+  unfolding nextTrade
+  no-contra-left b = rw b refl
 
   module _ (i : ℕ) (b : Ranked (t .book) (bestContra (e .sell) (shownOnly e) (t .book)) i) where
     -- nothing is left, or the best is beyond the bound
-    pub out-of-bound : (r : Trade) → (eqb (t .left) 0 || not (reaches (e .sell) cap (getD (t .book) i zeroEntry .working))) ≡ true
-        → r .going ≡ false → r .quantity ≡ 0 → NextTrade cap e t r
-    unfolding nextTake
-    out-of-bound r h g q = record {
-      is = rw (b .is, apart (eqb (t .left) 0) (reaches (e .sell) cap (getD (t .book) i zeroEntry .working)) h, g);
-      inside = λ h. absurd (let z : _≡_ {A = ℕ} 0 1 = cc in omega arith);
-      most = omega arith;
-    }
+    pub out-of-bound : (eqb (t .left) 0 || not (reaches (e .sell) cap (getD (t .book) i zeroEntry .working))) ≡ true → Nothing ≡ nextTrade cap e t
+    unfolding nextTrade
+    out-of-bound h = rw (b .is, apart (eqb (t .left) 0) (reaches (e .sell) cap (getD (t .book) i zeroEntry .working)) h) refl
       where
         apart : (a c : Bool) → (a || not c) ≡ true → (not a && c) ≡ false
         apart true c k = refl
@@ -52,13 +81,9 @@ module _ (cap : ℕ) (e : Entry) (t : Taking) where
     -- the trade
     pub in-bound : (y : Entry) (q : ℕ) → y ≡ getD (t .book) i zeroEntry → q ≡ min (t .left) (y .quantity)
         → (eqb (t .left) 0 || not (reaches (e .sell) cap (y .working))) ≡ false
-        → NextTrade cap e t (record { going = true; at = i; entry = y; quantity = q })
-    unfolding nextTake
-    in-bound y q s w h = record {
-      is = rw (b .is, ← s, both (eqb (t .left) 0) (reaches (e .sell) cap (y .working)) h, w);
-      inside = λ _. b .inside;
-      most = omega arith;
-    }
+        → With (record { at = i; entry = y; quantity = q }) ≡ nextTrade cap e t
+    unfolding nextTrade
+    in-bound y q s w h = rw (b .is, ← s, both (eqb (t .left) 0) (reaches (e .sell) cap (y .working)) h, w) refl
       where
         both : (a c : Bool) → (a || not c) ≡ false → (not a && c) ≡ true
         both true c k = sym k
@@ -78,11 +103,11 @@ unfolding taken
 take-start cap e left b room n t = record { well = t .well; going = going-start tt (t .roomy) }
 
 module _ {cap : ℕ} {e : Entry} {left₀ : ℕ} {b₀ : Book} {room₀ : List ℕ} {n₀ left : ℕ} {b : Book} {room : List ℕ} {n : ℕ}
-    (v : TakingOn cap e left₀ b₀ room₀ n₀ left b room n) (x : Trade) (nt : NextTrade cap e (takingOf left b) x) where
-  pub take-done : x .going ≡ false → TookAs (taken cap e (takingOf left₀ b₀)) room₀ n₀ b left room n
+    (v : TakingOn cap e left₀ b₀ room₀ n₀ left b room n) where
+  pub take-done : Nothing ≡ nextTrade cap e (takingOf left b) → TookAs (taken cap e (takingOf left₀ b₀)) room₀ n₀ b left room n
   unfolding taken
-  take-done g =
-      let stops : nextTake cap e (takingOf left b) ≡ stop = nt .is ∙ rw g refl in
+  take-done h =
+      let stops : nextTake cap e (takingOf left b) ≡ stop = next-take cap e (takingOf left b) ∙ ap (tradeAs e (takingOf left b)) (sym h) in
       let z = going-end (v .going) stops in
       record {
         book = book-of-entries b (v .well) ∙ ap (λ (t : Taking). bookOf (t .book)) (z .final);
@@ -92,10 +117,10 @@ module _ {cap : ℕ} {e : Entry} {left₀ : ℕ} {b₀ : Book} {room₀ : List �
         count = z .count;
       }
 
-  module _ (g : x .going ≡ true) where
+  module _ (x : Trade) (h : With x ≡ nextTrade cap e (takingOf left b)) where
     goes : nextTake cap e (takingOf left b)
         ≡ go (traded e (x .entry) (x .quantity)) (record { left = left - x .quantity; book = hit (x .at) (x .quantity) (entriesOf b) })
-    goes = nt .is ∙ rw g refl
+    goes = next-take cap e (takingOf left b) ∙ ap (tradeAs e (takingOf left b)) (sym h)
 
     pub take-room : Roomy room n (traded e (x .entry) (x .quantity) ∷ [])
     take-room =
@@ -103,7 +128,10 @@ module _ {cap : ℕ} {e : Entry} {left₀ : ℕ} {b₀ : Book} {room₀ : List �
         (record { left = left - x .quantity; book = hit (x .at) (x .quantity) (entriesOf b) }) goes
 
     pub take-place : Place b (x .at)
-    take-place = record { well = v .well; inside = omega (arith, nt .inside g, length-entries b (v .well)) }
+    take-place = record { well = v .well; inside = omega (arith, trade-within cap e (takingOf left b) x h .0, length-entries b (v .well)) }
+
+    pub take-most : x .quantity ≤ left
+    take-most = trade-within cap e (takingOf left b) x h .1
 
     module _ (c : Book) (q : c ≡ bookOf (hit (x .at) (x .quantity) (entriesOf b))) where
       same : record { left = left - x .quantity; book = hit (x .at) (x .quantity) (entriesOf b) } ≡ takingOf (left - x .quantity) c

@@ -33,9 +33,9 @@ bound-within k e y h z = reaches-second (e .sell) (e .limit) (away k (e .sell)) 
 pub arrival-within-away : (t : Terms) (e : Entry) (l : List Entry) → All (TradesWithin (marketOf t)) (arrived t e l .records)
 arrival-within-away t e l =
     arrived-says t e l (TradesWithin (marketOf t)) (record {
-      rejects = λ p why is stops. tt;
-      cancels = λ p why own s x o. tt;
+      rejects = λ p why. tt;
+      cancels = λ p why s x o. tt;
       trades = λ mi y n w. bound-within (marketOf t) e (y .working) w;
       rests = λ left h. tt;
-      stops = λ why left r. tt;
+      stops = λ why left. tt;
     })

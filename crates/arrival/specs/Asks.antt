@@ -1,14 +1,16 @@
 -- What the handler has seen to before a quote or an order arrives: the tests of its refusals, and the soundness of the series.
 -- No rule of document 01 stands here, only words for contracts.
 -- Assumes nothing.
-use Prim.Native.Nat.{ℕ, _+_, _-_, _≤_, _<_}
+use Prim.Native.Nat.{ℕ, _+_, _-_, _≤_, _<_, min}
 use mathlib.Core.Path.{_≡_}
-use mathlib.Core.Bool.{Bool, true, false, not}
+use mathlib.Core.Bool.{Bool, true, false, not, _&&_}
 use mathlib.Core.List.{List}
+use lib.Dec.{eqb}
 use lib.ListN.{length}
 use Rattle.kinds.specs.Kinds.{enters}
 use Rattle.prices.specs.Step.{legal}
-use Rattle.prices.specs.Side.{away}
+use Rattle.prices.specs.Side.{reaches, away}
+use Rattle.lists.specs.Choose.{Found, nowhere, found}
 use Rattle.lists.specs.Run.{Step, stop, go, Ran}
 use Rattle.telling.specs.Tell.{traded}
 use Rattle.book.specs.Change.{hit}
@@ -18,15 +20,16 @@ use Rattle.book.specs.declared.Entry.{Entry}
 use Rattle.book.specs.declared.Book.{Book}
 use Rattle.book.specs.Shape.{entriesOf, bookOf, WellFormed}
 use Rattle.book.specs.Entries.{quote, lastNumber}
-use Rattle.book.specs.Look.{contra, national}
+use Rattle.book.specs.Look.{bestContra, contra, national}
 use Rattle.soundness_theory.specs.Sound.{soundEntries}
 use Rattle.soundness_theory.specs.SoundMarket.{soundMarket}
 use Rattle.telling.specs.Stage.{Roomy}
 use Rattle.terms.specs.declared.Terms.{Terms}
 use Rattle.terms.specs.Terms.{marketOf}
-use Rattle.arrival.specs.Take.{Taking, nextTake, took}
+use Rattle.arrival.specs.Take.{Taking, shownOnly, took}
 use Rattle.arrival.specs.Post.{stopFor, Posts}
-use Rattle.arrival.specs.declared.take.Trade.{Trade}
+use Rattle.arrival.specs.declared.take.Next.{Next}
+use Rattle.arrival.specs.declared.take.Next.the-variants.{Nothing, With}
 use Rattle.arrival.specs.declared.Facing.{Facing}
 use Rattle.arrival.specs.Arrive.{replaced, posted, finished, noneTraded, entered, arrived}
 
@@ -64,15 +67,23 @@ pub record TookAs (x : Ran Taking Report) (room : List ℕ) (n : ℕ) (after : B
 abbrev pub takingOf : ℕ → Book → Taking
 takingOf left b = record { left = left; book = entriesOf b }
 
--- a trade that code has found, as the rule's step
-abbrev pub tradeAs : Entry → Taking → Bool → ℕ → Entry → ℕ → Step Taking Report
-tradeAs e t false at y quantity = stop
-tradeAs e t true at y quantity = go (traded e y quantity) (record { left = t .left - quantity; book = hit at quantity (t .book) })
+-- THE NEXT TRADE, as code answers it: the place of the best contra entry, the entry, and for how many contracts; or nothing
+abbrev pub tradeIf : Taking → ℕ → Entry → Bool → Next
+tradeIf t j y false = Nothing
+tradeIf t j y true = With (record { at = j; entry = y; quantity = min (t .left) (y .quantity) })
 
-pub record NextTrade (cap : ℕ) (e : Entry) (t : Taking) (r : Trade) : Type 0 where
-  pub is : nextTake cap e t ≡ tradeAs e t (r .going) (r .at) (r .entry) (r .quantity)
-  pub inside : r .going ≡ true → r .at < length (t .book)
-  pub most : r .quantity ≤ t .left
+abbrev pub tradeAt : ℕ → Entry → Taking → Found Entry → Next
+tradeAt cap e t nowhere = Nothing
+tradeAt cap e t (found j y) = tradeIf t j y (not (eqb (t .left) 0) && reaches (e .sell) cap (y .working))
+
+unfoldable pub nextTrade : ℕ → Entry → Taking → Next
+nextTrade cap e t = tradeAt cap e t (bestContra (e .sell) (shownOnly e) (t .book))
+
+-- what each case of the answer is in the rule (`nextTake` is just that, by `next-take` of proofs/TradeLaws): nothing ends it, and a trade is told by its report
+-- and leaves so much
+abbrev pub tradeAs : Entry → Taking → Next → Step Taking Report
+tradeAs e t Nothing = stop
+tradeAs e t (With x) = go (traded e (x .entry) (x .quantity)) (record { left = t .left - x .quantity; book = hit (x .at) (x .quantity) (t .book) })
 
 -- ---- an arrival, in its parts ----
 

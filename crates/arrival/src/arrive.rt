@@ -5,6 +5,7 @@ use crate::cancel::cut_rank;
 use crate::post::prices_of;
 use crate::post::rest_of;
 use crate::post::stop_for;
+use crate::take::Next;
 use crate::take::bound_of;
 use crate::take::is_offered;
 use crate::take::next_trade;
@@ -63,7 +64,10 @@ fn is_trading(b: Book, t: Terms, e: Entry, f: Facing) -> bool
         return false;
     }
     let next = next_trade(b, e, cap, e.quantity);
-    next.going
+    match next {
+        Next::Nothing => false,
+        Next::With(_) => true,
+    }
 }
 
 // A quote that is stopped before it trades: the reason to reject, or 0.

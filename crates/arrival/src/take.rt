@@ -5,7 +5,6 @@ use book::Rank;
 use book::change::lesser;
 use book::change::taken as hit_at;
 use book::entries::kind_of;
-use book::entries::zero_entry;
 use book::look::best_contra;
 use kinds::is_light;
 use prices::Market;
@@ -15,10 +14,9 @@ use prices::side::is_reaching;
 use telling::room::put;
 use telling::tell::tell_traded;
 ghost use mathlib.Core.Path.{_≡_};
-ghost use mathlib.Core.Bool.{false};
 ghost use Rattle.book.specs.Shape.{WellFormed};
 ghost use Rattle.arrival.specs.Take.{bound, shownOnly, offered, taken};
-ghost use Rattle.arrival.specs.Asks.{Takes, TookAs, takingOf, NextTrade};
+ghost use Rattle.arrival.specs.Asks.{Takes, TookAs, takingOf, nextTrade};
 
 // The lesser of the limit and the away price: no trade goes beyond it.
 pub fn bound_of(market: Market, e: Entry) -> u32
@@ -42,43 +40,36 @@ pub fn is_offered(sell: bool, cap: u32, price: u32) -> bool
 
 // A trade to come: with the entry at a place, for so many contracts.
 pub struct Trade {
-    pub going: bool,
     pub at: usize,
     pub entry: Entry,
     pub quantity: u32,
 }
 
-fn no_trade() -> Trade
-    ensures { λ r. ⌜ (r .going ≡ false) × (r .quantity ≡ 0) ⌝ }
-{
-    let entry = zero_entry();
-    Trade {
-        going: false,
-        at: 0,
-        entry,
-        quantity: 0,
-    }
+// The next trade, or none.
+pub enum Next {
+    Nothing,
+    With(Trade),
 }
 
 // The next trade of a taker with so much left.
-pub fn next_trade(b: Book, e: Entry, cap: u32, left: u32) -> Trade
+pub fn next_trade(b: Book, e: Entry, cap: u32, left: u32) -> Next
     requires { ⌜ WellFormed b ⌝ }
-    ensures { λ r. ⌜ NextTrade cap e (takingOf left b) r ⌝ }
+    ensures { λ r. ⌜ r ≡ nextTrade cap e (takingOf left b) ⌝ }
 {
     let best = best_contra(b, e.sell, is_shown_only(e));
     let Rank::At(at) = best else {
-        return no_trade();
+        return Next::Nothing;
     };
     let entry = b.entries[at];
     if (left == 0) | !is_reaching(e.sell, cap, entry.working) {
-        return no_trade();
+        return Next::Nothing;
     }
-    Trade {
-        going: true,
+    let quantity = lesser(left, entry.quantity);
+    Next::With(Trade {
         at,
         entry,
-        quantity: lesser(left, entry.quantity),
-    }
+        quantity,
+    })
 }
 
 // Takes the best, again and again, as far as the bound reaches and something is left.
@@ -89,10 +80,10 @@ pub fn take_all(b: Book, e: Entry, cap: u32, left: &mut u32, room: &mut [u8], n:
 {
     let mut c = b;
     loop {
-        let next = next_trade(c, e, cap, *left);
-        if !next.going {
+        let found = next_trade(c, e, cap, *left);
+        let Next::With(next) = found else {
             return c;
-        }
+        };
         let y = next.entry;
         let report = tell_traded(e, y, next.quantity);
         put(room, n, report);

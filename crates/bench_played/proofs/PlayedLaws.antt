@@ -11,22 +11,13 @@ use lib.Seq.{take-all}
 use borrow.Author.Tests.{le-leb, lt-leb, leb-true, leb-false}
 use Rattle.lists.proofs.Bools.{and-left, and-right}
 use Rattle.packing.specs.declared.setup.Setup.{Setup}
-use Rattle.packing.specs.Room.{roomSize, mostReports}
+use Rattle.packing.specs.Room.{roomSize}
 use Rattle.packing.specs.Message.{messageSize}
 use Rattle.series.specs.declared.Series.{Series}
 use Rattle.series.specs.Series.{opened}
-use Rattle.handler.specs.Handle.{handled, handledAt}
-use Rattle.handler.proofs.Refusals.{refusals-keep}
-use Rattle.handler.proofs.Demands.{room-enough}
+use Rattle.handler.specs.Handle.{handledAt}
+use Rattle.handler.proofs.AnyRoom.{count-few}
 use Rattle.bench_played.specs.Played.{goesOn, Turned, playedOn, played, playedBy}
-
--- no message has more than 2,280 reports, refused or not
-pub count-few : (s : Series) (message room : List ℕ) → handled s message room .answer .count ≤ mostReports
-count-few s message room = go (handled s message room .answer .refusal) refl
-  where
-    go : (n : ℕ) → handled s message room .answer .refusal ≡ n → handled s message room .answer .count ≤ mostReports
-    go zero h = room-enough s message room h
-    go (suc n) h = omega (arith, refusals-keep s message room (λ z. omega (arith, h, z)) .count)
 
 -- the test of the loop
 pub goes-not : (long at size used : ℕ) → long < at + messageSize → goesOn long at size used ≡ false

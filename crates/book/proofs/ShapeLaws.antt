@@ -30,6 +30,10 @@ module _ (b : Book) (w : WellFormed b) where
   pub fits-64 : length (entriesOf b) ≤ 64
   fits-64 = omega (arith, length-entries, w .few)
 
+-- THEOREM. "EQUAL ENTRIES IN EQUAL RANK ORDER ARE THE SAME BOOK": two well-formed books that have them are equal, array and count; and only such are
+pub one-book : {a b : Book} → WellFormed a → WellFormed b → (entriesOf a ≡ entriesOf b → a ≡ b) × (a ≡ b → entriesOf a ≡ entriesOf b)
+one-book {a} {b} v w = (λ e. book-of-entries a v ∙ ap bookOf e ∙ sym (book-of-entries b w), λ e. ap entriesOf e)
+
 module _ (l : List Entry) where
   pub entries-of-book : entriesOf (bookOf l) ≡ l
   unfolding bookOf entriesOf

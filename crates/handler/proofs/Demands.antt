@@ -28,6 +28,9 @@ use Rattle.book.specs.Shape.{entriesOf}
 use Rattle.book.proofs.ShapeLaws.{entries-of-book}
 use Rattle.settling_theory.specs.Settle.{easing, stirring, nextEase, nextStir, eased, stirred, settled}
 use Rattle.settling_theory.proofs.Settles.{Settled, settles}
+use Rattle.settling_theory.proofs.SettleTells.{settled-says}
+use Rattle.telling.specs.Tell.{traded, repriced}
+use Rattle.lists.proofs.Bools.{cond-either}
 use Rattle.terms.specs.Terms.{marketOf}
 use Rattle.series.specs.declared.Series.{Series}
 use Rattle.series.specs.Series.{soundSeries}
@@ -47,6 +50,15 @@ ownOf s a = ownPart (s .terms) a (entriesOf (s .book))
 
 abbrev pub settlingOf : Series → Ask → Ran (List Entry) Report
 settlingOf s a = settledIf (termsAfter (s .terms) a) (ownOf s a .final)
+
+-- settling trades and moves: what is so of every trade and every move is so of each of its reports
+pub settling-says : (s : Series) (a : Ask) → Accepted s a → (P : Report → Type 0) → ((x : Entry) → P (repriced x)) → ((x y : Entry) (q : ℕ) → P (traded x y q))
+    → All P (settlingOf s a .records)
+unfolding still
+settling-says s a ok P moves trades =
+    cond-either (λ (x : Ran (List Entry) Report). All P (x .records)) (eqb (termsAfter (s .terms) a .phase) 1)
+    (settled (marketOf (termsAfter (s .terms) a)) (ownOf s a .final)) (still (ownOf s a .final))
+    (λ _. settled-says P moves trades (own-sound s a ok)) (λ _. tt)
 
 abbrev pub reportsOf : Series → Option Event → List Report
 reportsOf s none = []
@@ -77,15 +89,7 @@ module _ (s : Series) (a : Ask) (ok : Accepted s a) (room : List ℕ) (space : r
       over [] h = tt
       over (r ∷ rs) h = (h .0, over rs (h .1))
 
-  -- and a report that stands in the room is the definition's
-  pub at-told : (i : ℕ) (r : Report) → At (reportsIn (accepted s a room)) i (some r) → At (done (s .terms) a (entriesOf (s .book)) .records) i r
-  at-told i r h = under (done (s .terms) a (entriesOf (s .book)) .records) i (rw accepted-told at h)
-    where
-      under : (rs : List Report) (i : ℕ) → At (map some rs) i (some r) → At rs i r
-      under [] i h = h
-      under (x ∷ rs) zero h = cc
-      under (x ∷ rs) (suc i) h = under rs i h
-
+  -- and each of those stands in the room
   pub told-at : (i : ℕ) (r : Report) → At (done (s .terms) a (entriesOf (s .book)) .records) i r → At (reportsIn (accepted s a room)) i (some r)
   told-at i r h = subst (λ (rs : List (Option Report)). At rs i (some r)) (sym accepted-told) (over (done (s .terms) a (entriesOf (s .book)) .records) i h)
     where
@@ -131,6 +135,11 @@ module _ (s : Series) (message room : List ℕ) (zero : handled s message room .
   -- "2,280 reports of 14": THE ROOM IS ENOUGH
   pub room-enough : handled s message room .answer .count ≤ mostReports
   room-enough = omega (arith, ap (λ (h : Handled). h .answer .count) answer-is, done-part s (askOf (way .event)) ok .few)
+
+-- WHAT HOLDS OF EVERY REPORT OF THE DEFINITION HOLDS OF EVERY ONE IN THE ROOM
+pub reports-hold : (s : Series) (message room : List ℕ) (e : Event) → unpackOf messages message ≡ some e → handled s message room .answer .refusal ≡ 0
+    → (P : Report → Type 0) → All P (done (s .terms) (askOf e) (entriesOf (s .book)) .records) → EachReport P (handled s message room)
+reports-hold s message room e read h P a = of-accepted s message room e read h (EachReport P) (λ ok space. each-told s (askOf e) ok room space P a)
 
 -- ---- demand 3 ----
 

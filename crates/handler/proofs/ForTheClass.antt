@@ -7,28 +7,24 @@ use mathlib.Core.List.{List}
 use mathlib.Core.Logic.{_⊎_, inl, inr, ⊎-elim}
 use native.Mathlib.Omega.{arith}
 use lib.Dec.{eqb}
-use borrow.Author.Tests.{eq-eqb, ne-eqb, leb-true}
-use Rattle.prices.specs.declared.Prices.{Prices}
 use Rattle.prices.specs.declared.Market.{Market}
 use Rattle.prices.specs.Side.{reaches}
-use Rattle.kinds.specs.Kinds.{minds, enters, cancelsEntry, cancelsQuote, setsPhase}
+use Rattle.kinds.specs.Kinds.{minds, enters}
 use Rattle.kinds.proofs.KindLaws.{no-such, stays-out}
 use Rattle.prices.proofs.FrameLaws.{seen, reached}
 use Rattle.lists.specs.Places.{At}
 use Rattle.lists.specs.Tests.{All}
-use Rattle.lists.specs.Run.{Ran, still, andThen}
+use Rattle.lists.specs.Run.{Ran, still}
 use Rattle.lists.proofs.Bools.{clash, cond-either}
 use Rattle.lists.proofs.TestLaws.{all-at, all-map, all-append}
 use Rattle.packing.specs.declared.report.Report.{Report}
-use Rattle.packing.specs.declared.report.Report.the-variants.{Noted}
 use Rattle.book.specs.declared.Entry.{Entry}
-use Rattle.book.specs.Entries.{display, lessened}
+use Rattle.book.specs.Entries.{display}
 use Rattle.book.specs.Shape.{entriesOf}
-use Rattle.book.specs.Look.{entryOf, quoteIn}
 use Rattle.soundness_theory.proofs.Facts.{Sound}
 use Rattle.soundness_theory.proofs.SoundFacts.{is-sound}
 use Rattle.soundness_theory.proofs.KeepLaws.{here-facts}
-use Rattle.telling.specs.Tell.{cancelled, takerOf}
+use Rattle.telling.specs.Tell.{takerOf}
 use Rattle.settling_theory.specs.Settle.{settled}
 use Rattle.settling_theory.proofs.Keeps.{Stems, stems-start, stems-lessened, stems-through}
 use Rattle.settling_theory.proofs.Takers.{one-number, Minding, minding-all}
@@ -36,21 +32,16 @@ use Rattle.telling.proofs.Within.{TradesWithin}
 use Rattle.settling_theory.proofs.Settles.{settles}
 use Rattle.terms.specs.declared.Terms.{Terms}
 use Rattle.terms.specs.Terms.{marketOf}
-use Rattle.arrival.specs.Cancel.{cancelEntry, cancelQuote, sweep}
-use Rattle.arrival.specs.Post.{asPosted}
-use Rattle.arrival.specs.Arrive.{reported, arrived}
 use Rattle.arrival.proofs.ArriveTells.{arrived-says}
 use Rattle.arrival.proofs.Within.{arrival-within-away}
-use Rattle.arrival.proofs.CutLaws.{cut-all, quote-all}
-use Rattle.arrival.proofs.SweepLaws.{sweep-all}
 use Rattle.arrival.proofs.EnterLaws.{if-any-high, given-display}
-use Rattle.arrival.proofs.Afterwards.{arrived-all, cut-says, sweep-says}
 use Rattle.series.specs.declared.Series.{Series}
 use Rattle.handler.specs.declared.Ask.{Ask}
 use Rattle.handler.specs.Accept.{comer, ownPart, termsAfter, settledIf, done}
 use Rattle.series.proofs.TermsLaws.{step-mpv}
 use Rattle.handler.proofs.Passed.{Accepted, facts, terms-legal}
 use Rattle.handler.proofs.Accepted.{own-sound, done-part}
+use Rattle.handler.proofs.OwnPart.{own-rests, own-tells}
 
 -- no report that says who took names this entry
 abbrev pub NotTaker : ℕ → Report → Type 0
@@ -63,52 +54,17 @@ module _ (s : Series) (a : Ask) where
   abbrev l : List Entry
   l = entriesOf (s .book)
 
-  -- ---- the message's own part ----
-
-  -- who rests after it
-  own-all : (P : Entry → Type 0) → ((q : ℕ) (x : Entry) → P x → P (lessened q x))
-      → (enters (a .kind) ≡ true → (left : ℕ) (p : Prices) → P (asPosted (comer (s .terms .given) a) left p))
-      → All P (entriesOf (s .book)) → All P (ownPart (s .terms) a (entriesOf (s .book)) .final)
-  unfolding ownPart
-  own-all P lessens posts h =
-      cond-either Rested (enters (a .kind)) (arrived t (comer (t .given) a) l) _
-      (λ q. arrived-all t (comer (t .given) a) l P (λ n x k p. lessens n x p) (posts q) h)
-      (λ _. cond-either Rested (cancelsEntry (a .kind)) (cancelEntry (a .party) (a .entry) l) _ (λ _. cut-all 28 l P (entryOf (a .party) (a .entry) l) h)
-      (λ _. cond-either Rested (cancelsQuote (a .kind)) (cancelQuote (a .party) (a .sell) l) _ (λ _. quote-all 28 (a .party) (a .sell) l P h)
-      (λ _.
-      cond-either Rested (setsPhase (a .kind)) (andThen (reported Noted l) (sweep (a .quantity))) (reported Noted l) (λ _. sweep-all (a .quantity) l P h)
-      (λ _. h))))
-    where
-      Rested : Ran (List Entry) Report → Type 0
-      Rested x = All P (x .final)
-
-  -- what its reports say: what those of an arrival do, and a note, and what is cancelled
-  pub own-says : (P : Report → Type 0) → (enters (a .kind) ≡ true → All P (arrived (s .terms) (comer (s .terms .given) a) (entriesOf (s .book)) .records))
-      → P Noted → ((why : ℕ) → 27 ≤ why → (x : Entry) → P (cancelled why x)) → All P (ownPart (s .terms) a (entriesOf (s .book)) .records)
-  unfolding ownPart
-  own-says P arrives noted gone =
-      cond-either Says (enters (a .kind)) (arrived t (comer (t .given) a) l) _ arrives
-      (λ _. cond-either Says (cancelsEntry (a .kind)) (cancelEntry (a .party) (a .entry) l) _
-      (λ _. cut-says l P gone 28 (omega arith) (entryOf (a .party) (a .entry) l))
-      (λ _. cond-either Says (cancelsQuote (a .kind)) (cancelQuote (a .party) (a .sell) l) _
-      (λ _. cut-says l P gone 28 (omega arith) (quoteIn (a .party) (a .sell) l))
-      (λ _. cond-either Says (setsPhase (a .kind)) (andThen (reported Noted l) (sweep (a .quantity))) (reported Noted l)
-      (λ _. (noted, sweep-says l P gone (a .quantity))) (λ _. (noted, tt)))))
-    where
-      Says : Ran (List Entry) Report → Type 0
-      Says x = All P (x .records)
-
-  -- who takes in it: the arriving entry alone, and no MMALO
+  -- who takes in the message's own part: the arriving entry alone, and no MMALO
   own-spares : (n : ℕ) → 1 ≤ n → (enters (a .kind) ≡ true → Minding n (comer (s .terms .given) a))
       → All (NotTaker n) (ownPart (s .terms) a (entriesOf (s .book)) .records)
   own-spares n some m =
-      own-says (NotTaker n)
+      own-tells t a l (NotTaker n)
       (λ q. arrived-says t (comer (t .given) a) l (NotTaker n) (record {
-        rejects = λ p why is stops z. omega arith;
-        cancels = λ p why own side x o z. omega arith;
+        rejects = λ p why z. omega arith;
+        cancels = λ p why side x o z. omega arith;
         trades = λ mi y k w z. clash (m q z) mi;
         rests = λ left h z. omega arith;
-        stops = λ why left r z. omega arith;
+        stops = λ why left z. omega arith;
       })) (λ z. omega arith) (λ why own x z. omega arith)
 
   module _ (ok : Accepted s a) where
@@ -129,7 +85,8 @@ module _ (s : Series) (a : Ask) where
     -- and then it is the new entry, or was there before
     own-stems : All (λ (x : Entry). (x .number ≡ s .terms .given + 1) ⊎ Stems (entriesOf (s .book)) x) (ownPart (s .terms) a (entriesOf (s .book)) .final)
     own-stems =
-        own-all (λ (x : Entry). (x .number ≡ t .given + 1) ⊎ Stems l x) (λ q x. ⊎-elim (λ z. inl z) (λ u. inr (stems-lessened q x u))) (λ _ left p. inl refl)
+        own-rests t a l (λ (x : Entry). (x .number ≡ t .given + 1) ⊎ Stems l x) (λ q x. ⊎-elim (λ z. inl z) (λ u. inr (stems-lessened q x u)))
+        (λ _ left r. inl refl)
         (all-map (λ x u. inr u) l (stems-start l))
 
     pub after : Sound (termsAfter (s .terms) a .m) (termsAfter (s .terms) a .given) (done (s .terms) a (entriesOf (s .book)) .final)
@@ -165,7 +122,7 @@ module _ (s : Series) (a : Ask) where
         all-append (NotTaker n) (ownPart t a l .records) (settledIf (termsAfter t a) r .records) (own-spares n some m)
         (cond-either (λ (x : Ran (List Entry) Report). All (NotTaker n) (x .records)) (eqb (termsAfter t a .phase) 1) (settled (marketOf (termsAfter t a)) r)
         (still r)
-        (λ _. settles (own-sound s a ok) .spared n some (own-all (Minding n) (λ q x z. z) (λ q left p. m q) h)) (λ _. tt))
+        (λ _. settles (own-sound s a ok) .spared n some (own-rests t a l (Minding n) (λ q x z. z) (λ q left r. m q) h)) (λ _. tt))
 
     pub record AddsOnly : Type 0 where
       -- whether it rests when the message comes
@@ -195,6 +152,6 @@ module _ (s : Series) (a : Ask) where
         let k : Market = marketOf (termsAfter t a) in
         let r : List Entry = ownPart t a l .final in
         all-append (TradesWithin k) (ownPart t a l .records) (settledIf (termsAfter t a) r .records)
-        (own-says (TradesWithin k) (λ q. rw (same-market q) (arrival-within-away t (comer (t .given) a) l)) tt (λ why own x. tt))
+        (own-tells t a l (TradesWithin k) (λ q. rw (same-market q) (arrival-within-away t (comer (t .given) a) l)) tt (λ why own x. tt))
         (cond-either (λ (x : Ran (List Entry) Report). All (TradesWithin k) (x .records)) (eqb (termsAfter t a .phase) 1) (settled k r) (still r)
         (λ _. settles (own-sound s a ok) .within) (λ _. tt))

@@ -5,7 +5,11 @@ pub mod Stages
 pub mod HandleLaws
 pub mod AcceptLaws
 pub mod Refusals
+pub mod OwnPart
 pub mod Demands
+pub mod AnyRoom
+pub mod AtRest
+pub mod Reasons
 pub mod Blocks
 pub mod Examples
 pub mod Worked

@@ -8,7 +8,7 @@ use mathlib.Core.Option.{some}
 use native.Mathlib.Omega.{arith}
 use lib.Dec.{eqb, leb}
 use lib.ListN.{length}
-use borrow.Author.Tests.{leb-true, leb-false, le-leb, eqb-true, not-false}
+use borrow.Author.Tests.{leb-true, leb-false, eqb-true, not-false}
 use Rattle.prices.specs.Step.{legal, noneOrLegal}
 use Rattle.lists.specs.Tests.{any}
 use Rattle.lists.specs.Choose.{Found, nowhere, found}
@@ -105,14 +105,20 @@ pub record Accepted (s : Series) (a : Ask) : Type 0 where
 pub accepts : (s : Series) (e : Event) → soundSeries s ≡ true → refusalOf s (askOf e) ≡ 0 → Accepted s (askOf e)
 accepts s e h k = record { sound = h; kind = ask-kind e .0; passes = k }
 
--- what holds of every answer to an accepted message holds of what is answered
-pub of-accepted : (s : Series) (message room : List ℕ) (e : Event) → unpackOf messages message ≡ some e → handled s message room .answer .refusal ≡ 0
-    → (P : Handled → Type 0) → (Accepted s (askOf e) → roomSize ≤ length room → P (accepted s (askOf e) room)) → P (handled s message room)
-of-accepted s message room e read zero P holds =
-    let w : Accepting s message room = accepting s message room zero in
-    let same : w .event ≡ e = (let z : some (w .event) ≡ some e = sym (w .read) ∙ read in cc) in
-    let passes : refusalOf s (askOf e) ≡ 0 = subst (λ (x : Event). refusalOf s (askOf x) ≡ 0) same (w .passes) in
-    subst P (sym (handled-accepted s message room (w .space) (w .sound) e read passes)) (holds (accepts s e (w .sound) passes) (w .space))
+-- a message that is answered with 0 is accepted, and that is the answer
+module _ (s : Series) (message room : List ℕ) (e : Event) (read : unpackOf messages message ≡ some e) (zero : handled s message room .answer .refusal ≡ 0) where
+  pub accepted-as : Accepted s (askOf e)
+  accepted-as =
+      let w : Accepting s message room = accepting s message room zero in
+      let same : w .event ≡ e = (let z : some (w .event) ≡ some e = sym (w .read) ∙ read in cc) in
+      subst (λ (x : Event). Accepted s (askOf x)) same (accepts s (w .event) (w .sound) (w .passes))
+
+  pub answer-as : handled s message room ≡ accepted s (askOf e) room
+  answer-as = handled-accepted s message room (accepting s message room zero .space) (accepted-as .sound) e read (accepted-as .passes)
+
+  -- so what holds of every answer to an accepted message holds of what is answered
+  pub of-accepted : (P : Handled → Type 0) → (Accepted s (askOf e) → roomSize ≤ length room → P (accepted s (askOf e) room)) → P (handled s message room)
+  of-accepted P holds = subst P (sym answer-as) (holds accepted-as (accepting s message room zero .space))
 
 -- ---- what the tests say ----
 

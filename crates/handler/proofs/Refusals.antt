@@ -9,7 +9,8 @@ use native.Mathlib.Omega.{arith}
 use lib.Dec.{eqb, ltb}
 use lib.ListN.{length, drop}
 use borrow.Author.Tests.{eqb-true}
-use Rattle.lists.specs.Tests.{All}
+use Rattle.lists.specs.Tests.{All, firstHolding}
+use Rattle.lists.proofs.FirstLaws.{first-none, none-first}
 use Rattle.packing.specs.declared.message.Event.{Event}
 use Rattle.packing.specs.Codec.{unpackOf}
 use Rattle.packing.specs.Message.{messages}
@@ -19,7 +20,7 @@ use Rattle.series.specs.declared.Series.{Series}
 use Rattle.series.specs.Series.{soundSeries}
 use Rattle.handler.specs.declared.Ask.{Ask}
 use Rattle.handler.specs.Asked.{askOf}
-use Rattle.handler.specs.Refuse.{badParty, badPrice, badQuantity, notOpen, isBlocked, isFull, isSpent, isMissing, firstHolding, refusalOf}
+use Rattle.handler.specs.Refuse.{badParty, badPrice, badQuantity, notOpen, isBlocked, isFull, isSpent, isMissing, refusalOf}
 use Rattle.handler.specs.Handle.{firstOf, refusedOr, Handled, refused, accepted, heard, handledAs, handled}
 
 -- the message unpacks to no event; a test is put to what an event asks
@@ -57,22 +58,6 @@ table s event room =
     -- "kinds 7, 8: no such entry of that party, or no such quote"
     ∷ (8, putTo event (isMissing (entriesOf (s .book))))
     ∷ []
-
--- ---- the first that holds ----
-
--- it is 0 exactly when none holds
-pub first-none : (ts : List (ℕ × Bool)) → All (λ (t : ℕ × Bool). 1 ≤ t .0) ts → firstHolding ts ≡ 0 → All (λ (t : ℕ × Bool). t .1 ≡ false) ts
-first-none [] n h = tt
-first-none (t ∷ ts) n h = by (t .1) refl h (λ k. first-none ts (n .1) k)
-  where
-    by : (b : Bool) → t .1 ≡ b → cond b (t .0) (firstHolding ts) ≡ 0 → (firstHolding ts ≡ 0 → All (λ (u : ℕ × Bool). u .1 ≡ false) ts)
-        → (t .1 ≡ false) × All (λ (u : ℕ × Bool). u .1 ≡ false) ts
-    by true q k more = absurd (omega (arith, n .0))
-    by false q k more = (q, more k)
-
-pub none-first : (ts : List (ℕ × Bool)) → All (λ (t : ℕ × Bool). t .1 ≡ false) ts → firstHolding ts ≡ 0
-none-first [] a = refl
-none-first (t ∷ ts) a = rw (a .0) (none-first ts (a .1))
 
 module _ (s : Series) (message room : List ℕ) where
   -- THE REFUSAL IS THE FIRST OF THE TABLE WHOSE TEST HOLDS

@@ -32,7 +32,7 @@ use Rattle.handler.proofs.Stages.{own-enters}
 use Rattle.handler.proofs.Demands.{reportsIn, OfReport, EachReport, each-told}
 use Rattle.handler.proofs.ForTheClass as class
 use Rattle.handler.proofs.TaughtWords.{comerOf, TakesSame, TakesBoth, TakesOpposite, LeavesQuotes}
-use Rattle.handler.proofs.TaughtLaws.{RejectsAs, CancelsAs, moves-priced, done-says, rejects-as, cancels-as}
+use Rattle.handler.proofs.TaughtLaws.{RejectsAs, CancelsAs, done-says, rejects-as, cancels-as}
 use Rattle.handler.proofs.TaughtLaws.{takes-same, takes-both, takes-opposite, leaves-quotes}
 
 -- ---- THE THEOREMS, of what is answered ----
@@ -68,7 +68,7 @@ module _ (s : Series) (message room : List ℕ) (e : Event) (read : unpackOf mes
       of-accepted s message room e read zero (λ (h : Handled). EachReport (TradesWithin (marketOf (h .answer .series .terms))) h)
       (λ ok space. each-told s (askOf e) ok room space (TradesWithin (marketOf (termsAfter (s .terms) (askOf e)))) (class.trades-within-away s (askOf e) ok))
 
-  -- AN MMALO IS PRICED OFF DARK INTEREST TOO: where a report in the room says that it rests, both its prices are short of every entry against it, and just its
+  -- AN ARRIVING MMALO IS PRICED OFF DARK INTEREST TOO: where a report in the room says that it rests, both its prices are short of every entry against it, and just its
   -- aims before the best price of them all
   pub priced-off-dark : minds (askOf e .kind) ≡ true
       → EachReport (arriving.PricedOff (s .terms) (comerOf s (askOf e)) (entriesOf (s .book))) (handled s message room)
@@ -77,8 +77,7 @@ module _ (s : Series) (message room : List ℕ) (e : Event) (read : unpackOf mes
       (λ ok space.
       let q : enters (askOf e .kind) ≡ true = sliding-enters (askOf e .kind) (minds-sliding (askOf e .kind) mi) in
       done-says s (askOf e) ok room space (arriving.PricedOff (s .terms) (comerOf s (askOf e)) (entriesOf (s .book)))
-      (rw (own-enters (s .terms) (askOf e) (entriesOf (s .book)) q) (arriving.priced-off-dark (accepted-arriving s (askOf e) ok q) mi))
-      (moves-priced (s .terms) (comerOf s (askOf e)) (entriesOf (s .book))))
+      (rw (own-enters (s .terms) (askOf e) (entriesOf (s .book)) q) (arriving.priced-off-dark (accepted-arriving s (askOf e) ok q) mi)) (λ x. tt) (λ x y q. tt))
 
   module _ (i why : ℕ) (side : Bool) (party number limit quantity : ℕ) where
     -- A REJECTION WITH 20 TO 24 TAKES THE SAME SIDE

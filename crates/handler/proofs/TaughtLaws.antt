@@ -25,13 +25,12 @@ use Rattle.book.specs.Entries.{display, quoteOf, withQuantity}
 use Rattle.book.specs.Shape.{entriesOf}
 use Rattle.book.specs.Look.{quoteIn}
 use Rattle.book.proofs.ShapeLaws.{entries-of-book}
-use Rattle.telling.specs.Tell.{rejected, cancelled}
+use Rattle.telling.specs.Tell.{rejected, traded, repriced, cancelled}
 use Rattle.settling_theory.specs.Settle.{settled}
 use Rattle.settling_theory.proofs.Keeps.{Stems}
 use Rattle.telling.proofs.Staying.{Numbered, TradeNamed, named-left, named-right}
 use Rattle.settling_theory.proofs.Takers.{one-number}
-use Rattle.settling_theory.proofs.Stays.{TradesOrMoves, settled-stays, settled-moves}
-use Rattle.terms.specs.declared.Terms.{Terms}
+use Rattle.settling_theory.proofs.Stays.{TradesOrMoves, settled-stays}
 use Rattle.terms.specs.Terms.{marketOf}
 use Rattle.arrival.specs.Cancel.{cutQuote}
 use Rattle.arrival.specs.Take.{Taking}
@@ -41,7 +40,7 @@ use Rattle.arrival.proofs.TakeLaws.{took-all}
 use Rattle.arrival.proofs.CutLaws.{OtherThan, quote-all}
 use Rattle.arrival.proofs.Leaves.{Rests, cancels, quote-leaves}
 use Rattle.arrival.proofs.Stays.{took-stays, order-stays}
-use Rattle.arrival.proofs.ArriveTells.{RestStopped, tradesOf, arrived-says}
+use Rattle.arrival.proofs.ArriveTells.{RestStopped, tradesOf, arrived-says-why}
 use Rattle.arrival.proofs.ForTheClass as arriving
 use Rattle.series.specs.declared.Series.{Series}
 use Rattle.handler.specs.declared.Ask.{Ask}
@@ -49,9 +48,10 @@ use Rattle.handler.specs.Accept.{termsAfter, done}
 use Rattle.handler.specs.Handle.{Handled, accepted}
 use Rattle.handler.proofs.Passed.{Accepted, accepted-arriving}
 use Rattle.handler.proofs.Accepted.{own-sound}
+use Rattle.handler.proofs.OwnPart.{own-tells}
 use Rattle.handler.proofs.Stages.{own-enters}
 use Rattle.handler.proofs.Blocks.{rejectionOf, same-is, blocking}
-use Rattle.handler.proofs.Demands.{ownOf, settlingOf, reportsIn, EachReport, accepted-told, each-told, told-at}
+use Rattle.handler.proofs.Demands.{settling-says, ownOf, settlingOf, reportsIn, EachReport, accepted-told, each-told, told-at}
 use Rattle.handler.proofs.ForTheClass as class
 use Rattle.handler.proofs.TaughtWords.{comerOf, TradeIn, Stays, TakesSame, TakesBoth, TakesOpposite, SparesQuotes, LeavesQuotes}
 
@@ -81,38 +81,6 @@ CancelsAs s a (Rested side party number display working quantity) = Unit {0}
 CancelsAs s a (Repriced side party number display working quantity) = Unit {0}
 CancelsAs s a (Cancelled why side party number limit quantity) = why ≤ 26 → StoppedFor s a why
 
-moves-reject : (s : Series) (a : Ask) (r : Report) → TradesOrMoves r → RejectsAs s a r
-moves-reject s a Noted h = absurd h
-moves-reject s a (Rejected why side party number limit quantity) h = absurd h
-moves-reject s a (Traded side party number other price quantity) h = tt
-moves-reject s a (Rested side party number display working quantity) h = absurd h
-moves-reject s a (Repriced side party number display working quantity) h = tt
-moves-reject s a (Cancelled why side party number limit quantity) h = absurd h
-
-moves-cancel : (s : Series) (a : Ask) (r : Report) → TradesOrMoves r → CancelsAs s a r
-moves-cancel s a Noted h = absurd h
-moves-cancel s a (Rejected why side party number limit quantity) h = absurd h
-moves-cancel s a (Traded side party number other price quantity) h = tt
-moves-cancel s a (Rested side party number display working quantity) h = absurd h
-moves-cancel s a (Repriced side party number display working quantity) h = tt
-moves-cancel s a (Cancelled why side party number limit quantity) h = absurd h
-
-pub moves-priced : (t : Terms) (e : Entry) (l : List Entry) (r : Report) → TradesOrMoves r → arriving.PricedOff t e l r
-moves-priced t e l Noted h = absurd h
-moves-priced t e l (Rejected why side party number limit quantity) h = absurd h
-moves-priced t e l (Traded side party number other price quantity) h = tt
-moves-priced t e l (Rested side party number display working quantity) h = absurd h
-moves-priced t e l (Repriced side party number display working quantity) h = tt
-moves-priced t e l (Cancelled why side party number limit quantity) h = absurd h
-
-moves-spare : (n : ℕ) (r : Report) → TradesOrMoves r → SparesQuotes n r
-moves-spare n Noted h = absurd h
-moves-spare n (Rejected why side party number limit quantity) h = absurd h
-moves-spare n (Traded side party number other price quantity) h = tt
-moves-spare n (Rested side party number display working quantity) h = absurd h
-moves-spare n (Repriced side party number display working quantity) h = tt
-moves-spare n (Cancelled why side party number limit quantity) h = absurd h
-
 -- ---- the parts of an accepted message, in its answer ----
 
 module _ (s : Series) (a : Ask) (ok : Accepted s a) (room : List ℕ) (space : roomSize ≤ length room) where
@@ -122,19 +90,16 @@ module _ (s : Series) (a : Ask) (ok : Accepted s a) (room : List ℕ) (space : r
   abbrev l : List Entry
   l = entriesOf (s .book)
 
-  -- settling trades and moves,
   settling-moves : All TradesOrMoves (settlingOf s a .records)
-  unfolding still
-  settling-moves =
-      cond-either (λ (x : Ran (List Entry) Report). All TradesOrMoves (x .records)) (eqb (termsAfter (s .terms) a .phase) 1)
-      (settled (marketOf (termsAfter (s .terms) a)) (ownOf s a .final)) (still (ownOf s a .final)) (λ _. settled-moves (own-sound s a ok)) (λ _. tt)
+  settling-moves = settling-says s a ok TradesOrMoves (λ x. tt) (λ x y q. tt)
 
-  -- so a report says what those of the message's own part do, and trades and moves
-  pub done-says : (P : Report → Type 0) → All P (ownOf s a .records) → ((r : Report) → TradesOrMoves r → P r) → EachReport P h
+  -- a report says what those of the message's own part do, and trades and moves
+  pub done-says : (P : Report → Type 0) → All P (ownOf s a .records) → ((x : Entry) → P (repriced x)) → ((x y : Entry) (q : ℕ) → P (traded x y q))
+      → EachReport P h
   unfolding done
-  done-says P own moves =
+  done-says P own moves trades =
       each-told s a ok room space P
-      (all-append P (ownOf s a .records) (settlingOf s a .records) own (all-map moves (settlingOf s a .records) settling-moves))
+      (all-append P (ownOf s a .records) (settlingOf s a .records) own (settling-says s a ok P moves trades))
 
   left-is : entriesOf (h .answer .series .book) ≡ settlingOf s a .final
   unfolding done
@@ -186,26 +151,26 @@ module _ (s : Series) (a : Ask) (ok : Accepted s a) (room : List ℕ) (space : r
   pub rejects-as : EachReport (RejectsAs s a) h
   rejects-as =
       done-says (RejectsAs s a)
-      (class.own-says s a (RejectsAs s a)
-      (λ q. arrived-says (s .terms) (comerOf s a) l (RejectsAs s a) (record {
-        rejects = λ p why is stops. (q, (stops, is));
-        cancels = λ p why own side x o. tt;
+      (own-tells (s .terms) a l (RejectsAs s a)
+      (λ q. arrived-says-why (s .terms) (comerOf s a) l (RejectsAs s a) (record {
+        rejects = λ p why stops is. (q, (stops, is));
+        cancels = λ p why own side x o was. tt;
         trades = λ mi y k w. tt;
         rests = λ left z. tt;
         stops = λ why left z. tt;
-      })) tt (λ why own x. tt)) (moves-reject s a)
+      })) tt (λ why own x. tt)) (λ x. tt) (λ x y q. tt)
 
   pub cancels-as : EachReport (CancelsAs s a) h
   cancels-as =
       done-says (CancelsAs s a)
-      (class.own-says s a (CancelsAs s a)
-      (λ q. arrived-says (s .terms) (comerOf s a) l (CancelsAs s a) (record {
-        rejects = λ p why is stops. tt;
-        cancels = λ p why own side x o low. absurd (omega (arith, own, low));
+      (own-tells (s .terms) a l (CancelsAs s a)
+      (λ q. arrived-says-why (s .terms) (comerOf s a) l (CancelsAs s a) (record {
+        rejects = λ p why stops is. tt;
+        cancels = λ p why own side x o was low. absurd (omega (arith, own, low));
         trades = λ mi y k w. tt;
         rests = λ left z. tt;
         stops = λ why left z low. record { entering = q; left = left; stopped = z };
-      })) tt (λ why own x low. absurd (omega (arith, own, low)))) (moves-cancel s a)
+      })) tt (λ why own x low. absurd (omega (arith, own, low)))) (λ x. tt) (λ x y q. tt)
 
   -- ---- what the message brought ----
 
@@ -244,6 +209,7 @@ module _ (s : Series) (a : Ask) (ok : Accepted s a) (room : List ℕ) (space : r
           settling = settling-moves;
           gone = λ side. stays-gone side (rw own-is (z .gone side));
           others = λ i y at o. rests-stays y (rw own-is (z .others i y at o));
+          unblocked = λ flags. blocking s a ok flags .others;
           blocked = λ flags. blocking s a ok flags .blocked (rejected-quote (s .terms) (comerOf s a) l (omega (arith, is, low))) (omega (arith, is, low));
         }
 
@@ -316,7 +282,7 @@ module _ (s : Series) (a : Ask) (ok : Accepted s a) (room : List ℕ) (space : r
     leaves-quotes order = record {
       reports = done-says (SparesQuotes (s .terms .given + 1))
           (rw own-is (all-map (λ r. own-rest r) (arrived (s .terms) (comerOf s a) l .records)
-          (arriving.orders-leave-quotes (s .terms) (comerOf s a) l order))) (moves-spare (s .terms .given + 1));
+          (arriving.orders-leave-quotes (s .terms) (comerOf s a) l order))) (λ x. tt) (λ x y q. tt);
       others = λ i y at. own-stays (y .number) (rw own-is (order-stays (s .terms) (comerOf s a) l order (y .number) (record {
         place = i;
         entry = y;

@@ -60,7 +60,7 @@ pub record TakesSame (s : Series) (a : Ask) (why : ℕ) (h : Handled) : Type 0 w
   pub settling : All TradesOrMoves (settlingOf s a .records)
   -- that quote is gone;
   pub gone : All (OtherThan (a .party) (a .sell)) (entriesOf (h .answer .series .book))
-  -- everything else stays,
+  -- everything else stays, or is named by a trade,
   pub others : (i : ℕ) (y : Entry) → At (entriesOf (s .book)) i y → quoteOf (a .party) (a .sell) y ≡ false → Stays h (y .number)
   -- and so does the maker's quote on the opposite side;
   pub opposite : (i : ℕ) (y : Entry) → At (entriesOf (s .book)) i y → quoteOf (a .party) (not (a .sell)) y ≡ true → Stays h (y .number)
@@ -78,9 +78,11 @@ pub record TakesBoth (s : Series) (a : Ask) (why : ℕ) (h : Handled) : Type 0 w
   pub settling : All TradesOrMoves (settlingOf s a .records)
   -- no quote of that maker is left on either side;
   pub gone : (side : Bool) → All (OtherThan (a .party) side) (entriesOf (h .answer .series .book))
-  -- everything else stays;
+  -- everything else stays, or is named by a trade;
   pub others : (i : ℕ) (y : Entry) → At (entriesOf (s .book)) i y → ((side : Bool) → quoteOf (a .party) side y ≡ false) → Stays h (y .number)
-  -- and the maker is blocked
+  -- the maker is blocked, and every other maker is as it was
+  pub unblocked : length (s .blocked) ≡ 16 → (maker : ℕ) → 1 ≤ maker → (maker ≡ a .party → ⊥)
+      → isBlockedIn (h .answer .series) maker ≡ isBlockedIn s maker
   pub blocked : length (s .blocked) ≡ 16 → isBlockedIn (h .answer .series) (a .party) ≡ true
 
 -- ---- "With something traded, the rest is cancelled and the maker's opposite quote too." ----
@@ -101,7 +103,7 @@ pub record TakesOpposite (s : Series) (a : Ask) (why : ℕ) (h : Handled) : Type
   pub settling : All TradesOrMoves (settlingOf s a .records)
   -- no quote of that maker is left on either side;
   pub gone : (side : Bool) → All (OtherThan (a .party) side) (entriesOf (h .answer .series .book))
-  -- everything else stays;
+  -- everything else stays, or is named by a trade;
   pub others : (i : ℕ) (y : Entry) → At (entriesOf (s .book)) i y → ((side : Bool) → quoteOf (a .party) side y ≡ false) → Stays h (y .number)
   -- and nobody is blocked for it
   pub unblocked : h .answer .series .blocked ≡ s .blocked
@@ -121,7 +123,7 @@ SparesQuotes n (Cancelled why s party number limit quantity) = number ≡ n
 pub record LeavesQuotes (s : Series) (a : Ask) (h : Handled) : Type 0 where
   -- no report rejects anything, or cancels anything but its own rest;
   pub reports : EachReport (SparesQuotes (s .terms .given + 1)) h
-  -- everything that rested stays, every quote among it;
+  -- everything that rested stays, or is named by a trade, every quote among it;
   pub others : (i : ℕ) (y : Entry) → At (entriesOf (s .book)) i y → Stays h (y .number)
   -- and nobody is blocked for it
   pub unblocked : h .answer .series .blocked ≡ s .blocked

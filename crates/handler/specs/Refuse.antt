@@ -2,13 +2,13 @@
 -- field."
 -- Assumes nothing.
 use Prim.Native.Nat.{ℕ, _-_}
-use mathlib.Core.Bool.{Bool, true, false, cond, not, _&&_, _||_}
+use mathlib.Core.Bool.{Bool, true, false, cond, not, _&&_}
 use mathlib.Core.List.{List, [], _∷_}
 use lib.Dec.{eqb, leb}
 use lib.ListN.{length, getD}
 use Rattle.prices.specs.Step.{legal, noneOrLegal}
 use Rattle.lists.specs.Choose.{Found, nowhere, found}
-use Rattle.lists.specs.Tests.{any}
+use Rattle.lists.specs.Tests.{any, firstHolding}
 use Rattle.book.specs.declared.Entry.{Entry}
 use Rattle.book.specs.declared.Rank.{Rank}
 use Rattle.book.specs.declared.Rank.the-variants.{At, Nowhere}
@@ -67,11 +67,6 @@ abbrev pub isMissing : List Entry → Ask → Bool
 isMissing l a =
     cond (cancelsEntry (a .kind)) (isNowhere (entryOf (a .party) (a .entry) l))
     (cond (cancelsQuote (a .kind)) (isNowhere (quoteIn (a .party) (a .sell) l)) false)
-
--- the number of the first test of a list that holds, 0 where none does
-abbrev pub firstHolding : List (ℕ × Bool) → ℕ
-firstHolding [] = 0
-firstHolding (t ∷ ts) = cond (t .1) (t .0) (firstHolding ts)
 
 -- THE LIST, in document 01's order, from 2 on: 10, 11 and 1, which come before an event is known, stand in Handle (`beforeReading`, `heard`)
 abbrev pub refusals : Series → Ask → List (ℕ × Bool)

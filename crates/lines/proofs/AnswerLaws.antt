@@ -22,7 +22,7 @@ use Rattle.packing.proofs.RoomLaws.{reports-read-back}
 use Rattle.io.specs.Counts.{Counts}
 use Rattle.lines.specs.Decimal.{decimal}
 use Rattle.lines.specs.Lines.{space, spaced, reportLine, refusalLine, lineOf, reportLines, answerText, linesOf}
-use Rattle.lines.specs.Buffer.{TextPut, roomy, printed, answerPrinted}
+use Rattle.lines.specs.Buffer.{TextPut, longestLine, roomy, printed, answerPrinted}
 use Rattle.lines.proofs.Counting.{counts}
 use Rattle.lines.proofs.DecimalLaws.{decimal-length}
 use Rattle.lines.proofs.BufferLaws.{printed-there, printed-nowhere, printed-length, printed-fits}
@@ -48,7 +48,7 @@ nine-fields (Rested sell party entry display working quantity) = refl
 nine-fields (Repriced sell party entry display working quantity) = refl
 nine-fields (Cancelled reason sell party entry limit quantity) = refl
 
-report-short : (number : ℕ) (r : Report) → number < 2 ^ 64 → packs reports r ≡ true → length (reportLine number r) ≤ 120
+report-short : (number : ℕ) (r : Report) → number < 2 ^ 64 → packs reports r ≡ true → length (reportLine number r) ≤ longestLine
 report-short number r n h =
     omega (
       arith,
@@ -58,18 +58,18 @@ report-short number r n h =
       nine-fields r,
     )
 
-refusal-short : (number refusal : ℕ) → number < 2 ^ 64 → refusal < 2 ^ 32 → length (refusalLine number refusal) ≤ 120
+refusal-short : (number refusal : ℕ) → number < 2 ^ 64 → refusal < 2 ^ 32 → length (refusalLine number refusal) ≤ longestLine
 refusal-short number refusal n r =
     omega (arith, refusal-length number refusal, decimal-length 19 number (omega arith), decimal-length 9 refusal (omega arith))
 
-place-short : (number : ℕ) (s : List ℕ) → number < 2 ^ 64 → Bytes s → length (lineOf number (unpackOf reports s)) ≤ 120
+place-short : (number : ℕ) (s : List ℕ) → number < 2 ^ 64 → Bytes s → length (lineOf number (unpackOf reports s)) ≤ longestLine
 place-short number s n b = by-cases (unpackOf reports s) refl
   where
-    by-cases : (u : Option Report) → unpackOf reports s ≡ u → length (lineOf number u) ≤ 120
+    by-cases : (u : Option Report) → unpackOf reports s ≡ u → length (lineOf number u) ≤ longestLine
     by-cases none e = omega arith
     by-cases (some r) e = report-short number r n (packed-bytes reports r s (unpack-pack reports lawful s r b e) .0)
 
-lines-short : (number count : ℕ) (room : List ℕ) → number < 2 ^ 64 → Bytes room → length (reportLines number (readBack count room)) ≤ 120 * count
+lines-short : (number count : ℕ) (room : List ℕ) → number < 2 ^ 64 → Bytes room → length (reportLines number (readBack count room)) ≤ longestLine * count
 lines-short number zero room n b = omega arith
 lines-short number (suc count) room n b =
     omega (
@@ -81,11 +81,11 @@ lines-short number (suc count) room n b =
 
 -- what is printed is at most 120 bytes for each line
 pub answer-short : (number refusal count : ℕ) (room : List ℕ) → number < 2 ^ 64 → refusal < 2 ^ 32 → Bytes room
-    → length (answerText number refusal count room) ≤ 120 * linesOf refusal count
+    → length (answerText number refusal count room) ≤ longestLine * linesOf refusal count
 unfolding answerText
 answer-short number refusal count room n r b = by-cases (eqb refusal 0)
   where
-    by-cases : (t : Bool) → length (cond t (reportLines number (readBack count room)) (refusalLine number refusal)) ≤ 120 * cond t count 1
+    by-cases : (t : Bool) → length (cond t (reportLines number (readBack count room)) (refusalLine number refusal)) ≤ longestLine * cond t count 1
     by-cases true = lines-short number count room n b
     by-cases false = refusal-short number refusal n r
 
@@ -114,7 +114,7 @@ module _ (out : List ℕ) (at number refusal count : ℕ) (room : List ℕ) (lin
   pub answered-room : number < 2 ^ 64 → refusal < 2 ^ 32 → Bytes room → roomy (length out) at lines ≡ true → at + length text ≤ length out
   unfolding roomy
   answered-room n r b h =
-      omega (arith, leb-true (at + 120 * lines) (length out) h, answer-short number refusal count room n r b, ap length (is .0), is .1)
+      omega (arith, leb-true (at + longestLine * lines) (length out) h, answer-short number refusal count room n r b, ap length (is .0), is .1)
 
   pub answered-there : {after : List ℕ} {end : ℕ} → roomy (length out) at lines ≡ true → TextPut out at text after end
       → (end ≡ answerPrinted out at number refusal count room .0) × (after ≡ answerPrinted out at number refusal count room .1)

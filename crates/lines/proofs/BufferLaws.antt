@@ -9,7 +9,7 @@ use lib.Dec.{leb}
 use lib.ListN.{length, set, length-append}
 use lib.Seq.{sets, length-sets}
 use Rattle.packing.proofs.RoomLaws.{sets-append}
-use Rattle.lines.specs.Buffer.{TextPut, roomy, printed}
+use Rattle.lines.specs.Buffer.{TextPut, longestLine, roomy, printed}
 
 -- no text, one byte, one text behind another
 pub put-none : (out : List ℕ) (at : ℕ) → TextPut out at [] out at
@@ -74,15 +74,15 @@ going-room {out} {text} {now} {left} {at} {end} part rest e g h = omega (arith, 
 -- the test for room by a division
 pub roomy-not : (size at lines : ℕ) → size < at → roomy size at lines ≡ false
 unfolding roomy
-roomy-not size at lines h = lt-leb (at + 120 * lines) size (omega arith)
+roomy-not size at lines h = lt-leb (at + longestLine * lines) size (omega arith)
 
-pub roomy-by : (size at lines : ℕ) → at ≤ size → leb lines ((size - at) / 120) ≡ roomy size at lines
+pub roomy-by : (size at lines : ℕ) → at ≤ size → leb lines ((size - at) / longestLine) ≡ roomy size at lines
 unfolding roomy
-roomy-by size at lines h = by-cases (leb lines ((size - at) / 120)) refl
+roomy-by size at lines h = by-cases (leb lines ((size - at) / longestLine)) refl
   where
-    by-cases : (b : Bool) → leb lines ((size - at) / 120) ≡ b → leb lines ((size - at) / 120) ≡ leb (at + 120 * lines) size
-    by-cases true e = e ∙ sym (le-leb (at + 120 * lines) size (omega (arith, leb-true lines ((size - at) / 120) e)))
-    by-cases false e = e ∙ sym (lt-leb (at + 120 * lines) size (omega (arith, leb-false lines ((size - at) / 120) e)))
+    by-cases : (b : Bool) → leb lines ((size - at) / longestLine) ≡ b → leb lines ((size - at) / longestLine) ≡ leb (at + longestLine * lines) size
+    by-cases true e = e ∙ sym (le-leb (at + longestLine * lines) size (omega (arith, leb-true lines ((size - at) / longestLine) e)))
+    by-cases false e = e ∙ sym (lt-leb (at + longestLine * lines) size (omega (arith, leb-false lines ((size - at) / longestLine) e)))
 
 -- what is printed, where there is room and where there may be none
 printed-if : (out text : List ℕ) (at lines : ℕ) (b : Bool) → roomy (length out) at lines ≡ b
@@ -102,6 +102,13 @@ printed-nowhere out text at lines h =
     let e = printed-if out text at lines false h in
     (sym (ap (λ (q : ℕ × List ℕ). q .0) e), sym (ap (λ (q : ℕ × List ℕ). q .1) e))
 
+-- the other way about: where there is room, what is printed is put
+pub printed-put : {out text after : List ℕ} {at end : ℕ} (lines : ℕ) → roomy (length out) at lines ≡ true → end ≡ printed out at lines text .0
+    → after ≡ printed out at lines text .1 → TextPut out at text after end
+printed-put {out} {text} {after} {at} {end} lines h e a =
+    let p = printed-if out text at lines true h in
+    record { stored = a ∙ ap (λ (q : ℕ × List ℕ). q .1) p; ends = e ∙ ap (λ (q : ℕ × List ℕ). q .0) p }
+
 pub printed-length : (out : List ℕ) (at lines : ℕ) (text : List ℕ) → length (printed out at lines text .1) ≡ length out
 unfolding printed
 printed-length out at lines text = by-cases (roomy (length out) at lines)
@@ -114,13 +121,13 @@ printed-length out at lines text = by-cases (roomy (length out) at lines)
     by-cases false = refl
 
 -- a text that is no longer than its lines may be ends within the buffer
-pub printed-fits : (out : List ℕ) (at lines : ℕ) (text : List ℕ) → length text ≤ 120 * lines → printed out at lines text .0 ≤ length out
+pub printed-fits : (out : List ℕ) (at lines : ℕ) (text : List ℕ) → length text ≤ longestLine * lines → printed out at lines text .0 ≤ length out
 unfolding printed roomy
-printed-fits out at lines text h = by-cases (leb (at + 120 * lines) (length out)) refl
+printed-fits out at lines text h = by-cases (leb (at + longestLine * lines) (length out)) refl
   where
     both : Bool → ℕ × List ℕ
     both b = cond b (at + length text, sets out at text) (0, out)
 
-    by-cases : (b : Bool) → leb (at + 120 * lines) (length out) ≡ b → both b .0 ≤ length out
-    by-cases true e = omega (arith, leb-true (at + 120 * lines) (length out) e)
+    by-cases : (b : Bool) → leb (at + longestLine * lines) (length out) ≡ b → both b .0 ≤ length out
+    by-cases true e = omega (arith, leb-true (at + longestLine * lines) (length out) e)
     by-cases false e = omega arith

@@ -7,6 +7,7 @@ use mathlib.Core.Path.{_≡_}
 use lib.Dec.{leb}
 use lib.ListN.{length}
 use lib.Seq.{sets}
+use Rattle.packing.specs.Room.{mostReports}
 use Rattle.lines.specs.Lines.{answerText, linesOf}
 
 -- a text is put into a buffer: its bytes stand from `at` on, every other byte is as it was, and `end` is where it ends
@@ -14,10 +15,17 @@ pub record TextPut (out : List ℕ) (at : ℕ) (text after : List ℕ) (end : �
   pub stored : after ≡ sets out at text
   pub ends : end ≡ at + length text
 
--- there are 120 bytes for each of so many lines from `at` on, and no line is longer: 20 digits of the message's number, nine fields of at
--- most 10 digits with a space before each, and the line's end
+-- no line is longer: 20 digits of the message's number, nine fields of at most 10 digits with a space before each, and the line's end
+abbrev pub longestLine : ℕ
+longestLine = 120
+
+-- and no message has more lines than reports, or the one of its refusal
+abbrev pub longestAnswer : ℕ
+longestAnswer = mostReports * longestLine
+
+-- there are so many bytes for each of so many lines from `at` on
 unfoldable pub roomy : ℕ → ℕ → ℕ → Bool
-roomy size at lines = leb (at + 120 * lines) size
+roomy size at lines = leb (at + longestLine * lines) size
 
 -- WHERE THE TEXT ENDS, AND THE BUFFER AFTERWARDS: the text stored from `at` on; 0, and the buffer as it was, where it might be too short
 unfoldable pub printed : List ℕ → ℕ → ℕ → List ℕ → ℕ × List ℕ

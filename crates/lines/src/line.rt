@@ -15,7 +15,13 @@ use packing::report::SIZE;
 use packing::report::Unpacked;
 use packing::report::fields_of;
 use packing::report::unpack;
+use packing::room::MOST_REPORTS;
 use packing::room::store;
+
+// The most bytes that a line has, and a message's lines together.
+const LINE: usize = 120;
+
+pub const LONGEST_ANSWER: usize = MOST_REPORTS * LINE;
 
 // The fields, each with a space before it.
 fn put_fields(out: &mut [u8], at: usize, fields: [u32; 9]) -> usize
@@ -92,7 +98,7 @@ fn is_roomy(size: usize, at: usize, lines: usize) -> bool
     if size < at {
         return false;
     }
-    lines <= (size - at) / 120
+    lines <= (size - at) / LINE
 }
 
 // What is printed for message `number`: its refusal, or a line for each of the first `count` reports of the room. Answers where it ends;

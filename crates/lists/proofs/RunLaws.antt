@@ -93,6 +93,16 @@ pub complete-keeps : {S R : Type 0} {step : S → Step S R} {s t : S} {rs : List
 complete-keeps Ok kept ok (done e) = ok
 complete-keeps Ok kept ok (then {s = s} {t = t} {r = r} e c) = complete-keeps Ok kept (kept s r t ok e) c
 
+-- a state to which a rule comes by steps; each of them keeps what the steps keep
+pub data Reached {S R : Type 0} (step : S → Step S R) (s : S) : S → Type 0 where
+  start : Reached step s s
+  after : {t u : S} {r : R} → Reached step s t → step t ≡ go r u → Reached step s u
+
+pub reached-keeps : {S R : Type 0} {step : S → Step S R} {s u : S} (Ok : S → Type 0)
+    → ((s : S) (r : R) (t : S) → Ok s → step s ≡ go r t → Ok t) → Ok s → Reached step s u → Ok u
+reached-keeps Ok kept ok start = ok
+reached-keeps Ok kept ok (after {t = t} {u = u} {r = r} c e) = kept t r u (reached-keeps Ok kept ok c) e
+
 stop-go : {S R : Type 0} {x : Step S R} {r : R} {t : S} → x ≡ stop → x ≡ go r t → ⊥
 stop-go p q = let z : _≡_ {A = ℕ} 0 1 = cc in omega arith
 

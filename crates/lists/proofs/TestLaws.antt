@@ -2,7 +2,7 @@
 -- Assumes nothing.
 use Prim.Native.Nat.{ℕ, zero, suc, _+_, _≤_}
 use mathlib.Core.Path.{_≡_, refl, subst, ap, _∙_}
-use mathlib.Core.Bool.{Bool, true, false}
+use mathlib.Core.Bool.{Bool, true, false, _||_}
 use mathlib.Core.List.{List, [], _∷_, _++_}
 use native.Mathlib.Omega.{arith}
 use lib.ListN.{length}
@@ -64,6 +64,29 @@ module _ {A : Type 0} where
   unfolding any
   false-any test [] a = refl
   false-any test (x ∷ l) a = rw (a .0) (false-any test l (a .1))
+
+  -- some element passes, exactly if one at a place does
+  pub record Somewhere (test : A → Bool) (l : List A) : Type 0 where
+    pub place : ℕ
+    pub element : A
+    pub there : At l place element
+    pub passes : test element ≡ true
+
+  pub any-true : (test : A → Bool) (l : List A) → any test l ≡ true → Somewhere test l
+  unfolding any
+  any-true test [] e = clash e refl
+  any-true test (x ∷ l) e = by (test x) refl e (λ h. any-true test l h)
+    where
+      by : (b : Bool) → test x ≡ b → (b || any test l) ≡ true → (any test l ≡ true → Somewhere test l) → Somewhere test (x ∷ l)
+      by true q h more = record { place = 0; element = x; there = refl; passes = q }
+      by false q h more = let s = more h in record { place = suc (s .place); element = s .element; there = s .there; passes = s .passes }
+
+  pub true-any : (test : A → Bool) (l : List A) → Somewhere test l → any test l ≡ true
+  true-any test l s = by (any test l) refl
+    where
+      by : (b : Bool) → any test l ≡ b → b ≡ true
+      by true q = refl
+      by false q = clash (s .passes) (all-at (λ (x : A). test x ≡ false) l (s .place) (s .element) (any-false test l q) (s .there))
 
   pub pairs-true : (test : A → A → Bool) (x : A) (l : List A) → pairs test (x ∷ l) ≡ true → (all (test x) l ≡ true) × (pairs test l ≡ true)
   unfolding pairs

@@ -1,7 +1,7 @@
--- Tests put to the elements of a list: as facts (All) and as answers (all, any, pairs, count).
+-- Tests put to the elements of a list: as facts (All) and as answers (all, any, pairs, count); and the first of several tests that holds (firstHolding).
 -- Assumes nothing.
 use Prim.Native.Nat.{ℕ, _+_}
-use mathlib.Core.Bool.{Bool, true, false, _&&_, _||_}
+use mathlib.Core.Bool.{Bool, true, false, cond, _&&_, _||_}
 use mathlib.Core.List.{List, [], _∷_}
 
 -- one that passes, or none
@@ -32,3 +32,8 @@ module _ {A : Type 0} where
   abbrev pub count : (A → Bool) → List A → ℕ
   count test [] = 0
   count test (x ∷ l) = one (test x) + count test l
+
+-- the number of the first test of a list that holds, 0 where none does
+abbrev pub firstHolding : List (ℕ × Bool) → ℕ
+firstHolding [] = 0
+firstHolding (t ∷ ts) = cond (t .1) (t .0) (firstHolding ts)

@@ -170,3 +170,17 @@ module _ {m l a x : ℕ} (s : Bool) (v : Mpv m) (ga : LegalIfAny m a) (p : Price
   aims-step k =
       let j : seen s (back m s (p .working)) ≤ before m s a = back-before s v ga k (omega (arith, ai .working-is)) in
       omega (arith, back-lt s v k, ai .display-is, ai .working-is)
+
+-- whatever the contra price, the working aim does not go past the away price;
+pub aim-within : (m kind : ℕ) (s : Bool) (l a c : ℕ) → l ≤ 200000 → seen s (aimWorking m kind s l a c) ≤ faced s a
+unfolding aimWorking shortOf
+aim-within m kind s l a c h = go (eqb (minded kind c) 0)
+  where
+    go : (t : Bool) → seen s (cond t (upTo s a l) (meek s (upTo s a l) (back m s (minded kind c)))) ≤ faced s a
+    go true = omega (arith, seen-upTo s a l h)
+    go false = omega (arith, seen-upTo s a l h, seen-meek s (upTo s a l) (back m s (minded kind c)))
+
+-- and to a kind that does not mind it, it is all one
+pub aim-unminded : (m kind : ℕ) (s : Bool) (l a c c′ : ℕ) → minds kind ≡ false → aimWorking m kind s l a c ≡ aimWorking m kind s l a c′
+unfolding aimWorking minded
+aim-unminded m kind s l a c c′ e = rw e refl

@@ -7,8 +7,9 @@ use mathlib.Core.Bool.{Bool, true, false, not, Bool·beq}
 use native.Mathlib.Omega.{arith}
 use borrow.Author.Tests.{leb-true, leb-false, ltb-true, ltb-false, le-leb, lt-leb}
 use lib.Dec.{leb, ltb}
-use Rattle.prices.specs.Side.{keen, meek, reaches}
+use Rattle.prices.specs.Side.{keen, meek, reaches, Aggressive, Short}
 use Rattle.lists.proofs.Bools.{clash}
+use Rattle.lists.proofs.FirstLaws.{Decides}
 
 -- 200000 stands above all prices
 unfoldable pub seen : Bool → ℕ → ℕ
@@ -61,6 +62,28 @@ pub unreached : (s : Bool) (p x : ℕ) → seen s p < seen s x → reaches s p x
 unfolding seen reaches
 unreached false p x h = lt-leb x p h
 unreached true p x h = lt-leb p x (omega arith)
+
+-- and as claims
+pub decides-reaches : (s : Bool) (p x : ℕ) → Decides (reaches s p x) (Aggressive s p x)
+unfolding reaches
+decides-reaches false p x = (leb-true x p, le-leb x p)
+decides-reaches true p x = (leb-true p x, le-leb p x)
+
+pub aggressive-seen : (s : Bool) (p x : ℕ) → Aggressive s p x → seen s x ≤ seen s p
+aggressive-seen s p x h = reaches-true s p x (decides-reaches s p x .1 h)
+
+pub seen-aggressive : (s : Bool) (p x : ℕ) → p ≤ 200000 → x ≤ 200000 → seen s x ≤ seen s p → Aggressive s p x
+seen-aggressive s p x a b h = decides-reaches s p x .0 (reached s p x a b h)
+
+pub seen-short : (s : Bool) (p x : ℕ) → seen s p < seen s x → Short s p x
+unfolding seen
+seen-short false p x h = h
+seen-short true p x h = omega arith
+
+pub short-seen : (s : Bool) (p x : ℕ) → p ≤ 200000 → Short s p x → seen s p < seen s x
+unfolding seen
+short-seen false p x a h = h
+short-seen true p x a h = omega arith
 
 -- picking by one test for both sides
 module _ (s : Bool) (p q : ℕ) where

@@ -4,5 +4,7 @@ pub mod AimLaws
 pub mod RestLaws
 pub mod QuoteLaws
 pub mod ProtectLaws
+pub mod StopLaws
+pub mod RestingLaws
 pub mod EaseLaws
 pub mod RequestLaws

@@ -1,4 +1,4 @@
--- What the test of a series adds to the test of its book: one law for each way out.
+-- What the test of a series adds to the test of its book: one law for each way out; and that there is only one answer.
 -- Assumes nothing.
 use mathlib.Core.Path.{_≡_, refl, sym, ap, _∙_}
 use mathlib.Core.Bool.{Bool, true, false, _&&_}
@@ -8,6 +8,7 @@ use Rattle.book.proofs.ShapeLaws.{length-entries}
 use Rattle.soundness_theory.specs.Sound.{soundBook}
 use Rattle.soundness.specs.declared.Check.{Check}
 use Rattle.soundness.specs.Summary.{Checked, unsound}
+use Rattle.soundness.proofs.SummaryLaws.{one-answer, checked-one}
 use Rattle.series.specs.declared.Series.{Series}
 use Rattle.series.specs.Series.{soundTerms, soundPhase, soundSeries}
 use Rattle.series.specs.Checks.{phaseWith, Tested}
@@ -53,3 +54,7 @@ module _ (s : Series) (c : Check) (terms : soundTerms (s .terms) ≡ true) (k : 
       go : (b : Bool) → c .ok ≡ b → b ≡ (b && soundPhase (s .terms .phase) (entriesOf (s .book)))
       go false q = refl
       go true q = sym (of-phase q ∙ h)
+
+-- THEOREM. THE PROMISE OF `check_series` FIXES ITS ANSWER: "Two outcomes allowed by one promise are proved equal"
+pub tested-one : {s : Series} {x y : Check} → Tested s x → Tested s y → x ≡ y
+tested-one c d = one-answer (c .verdict ∙ sym (d .verdict)) (λ h k. checked-one (c .checked h) (d .checked k)) (c .nothing) (d .nothing)

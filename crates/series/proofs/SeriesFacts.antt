@@ -15,10 +15,11 @@ use Rattle.lists.proofs.Bools.{and-parts, and-both}
 use Rattle.book.specs.declared.Entry.{Entry}
 use Rattle.book.specs.declared.Book.{Book}
 use Rattle.book.specs.Shape.{zeroEntry, entriesOf, bookOf}
-use Rattle.book.proofs.ShapeLaws.{entries-of-book}
+use Rattle.book.proofs.ShapeLaws.{one-book, entries-of-book}
 use Rattle.book.specs.Entries.{lastNumber}
 use Rattle.soundness_theory.specs.Sound.{soundEntries, unusedEntry, soundBook}
 use Rattle.soundness_theory.specs.SoundMarket.{soundMarket}
+use Rattle.soundness.proofs.BookLaws.{sound-well}
 use Rattle.terms.specs.declared.Terms.{Terms}
 use Rattle.terms.specs.Terms.{marketOf}
 use Rattle.series.specs.declared.Series.{Series}
@@ -90,3 +91,13 @@ facts-series t blocked l f most e n p = passed (record { terms = t; blocked = bl
   book = tests-book (t .m) (t .given) l e n;
   phase = rw (entries-of-book l) (facts-phase (t .phase) l p);
 })
+
+-- THEOREM. TWO SOUND SERIES with equal numbers, equal block lists and EQUAL ENTRIES IN EQUAL RANK ORDER ARE THE SAME SERIES. That there are 64 places is the
+-- array's type. It stands for the reader: it is what `one-book` of crate book is for a whole state
+pub one-series : {a b : Series} → soundSeries a ≡ true → soundSeries b ≡ true → length (a .book .entries) ≡ 64 → length (b .book .entries) ≡ 64
+    → a .terms ≡ b .terms → a .blocked ≡ b .blocked → entriesOf (a .book) ≡ entriesOf (b .book) → a ≡ b
+one-series {a} {b} sound-a sound-b places-a places-b terms blocked entries =
+    let well-a = sound-well (a .terms .m) (a .terms .given) (a .book) (passes a sound-a .book) places-a in
+    let well-b = sound-well (b .terms .m) (b .terms .given) (b .book) (passes b sound-b .book) places-b in
+    let book = one-book well-a well-b .0 entries in
+    λ i. record { terms = terms i; blocked = blocked i; book = book i }

@@ -2,22 +2,31 @@
 -- Assumes nothing.
 use Prim.Native.Nat.{ℕ, suc, _+_, _-_, _*_, _≤_, _<_}
 use mathlib.Core.Path.{_≡_, refl, sym, ap, ap₂, _∙_}
-use mathlib.Core.Bool.{Bool, true, false}
 use mathlib.Core.List.{List, [], _∷_, _++_, append-assoc, append-nil}
 use mathlib.Core.Option.{Option, none, some}
 use native.Mathlib.Numerals.{add-one}
 use native.Mathlib.Omega.{arith}
 use lib.ListN.{length, take, drop, getD, set, length-append, length-drop, length-set}
 use lib.Seq.{take-all, take-at, take-suc, take-suc-set, drop-drop, length-take-le}
-use Rattle.packing.specs.Codec.{onlyIf, bytesOf, unpackOf}
+use Rattle.packing.specs.Codec.{bytesOf, unpackOf}
 use Rattle.packing.proofs.CodecLaws.{length-bytes}
 use Rattle.book.specs.declared.Entry.{Entry}
 use Rattle.book.specs.Shape.{zeroEntry}
-use Rattle.series_buffer.specs.Entry.{entrySize, entries}
+use Rattle.series_buffer.specs.declared.places.Place.the-variants.{Nothing, Holding}
+use Rattle.series_buffer.specs.Entry.{entrySize, entries, placeOf}
 use Rattle.series_buffer.specs.State.{placesSize, joined, entriesIn, entriesBytes}
 use Rattle.series_buffer.proofs.EntryLaws.{lawful}
 
 -- ---- reading ----
+
+-- what a place held, by the answer
+no-place : (o : Option Entry) → Nothing ≡ placeOf o → o ≡ none
+no-place none h = refl
+no-place (some e) h = let z : _≡_ {A = ℕ} 0 1 = cc in absurd (omega arith)
+
+held-place : (o : Option Entry) (e : Entry) → Holding e ≡ placeOf o → o ≡ some e
+held-place none e h = let z : _≡_ {A = ℕ} 0 1 = cc in absurd (omega arith)
+held-place (some x) e h = let same : x ≡ e = cc in ap some same
 
 -- entries that were read, with those that are still to be read behind them
 abbrev pub behind : List Entry → Option (List Entry) → Option (List Entry)
@@ -55,9 +64,8 @@ module _ (s : List ℕ) (i : ℕ) (es : List Entry) (v : Reading s i es) where
       ∙ ap (behind (take i es)) (no-entry (64 - i) (drop (entrySize * i) s) (omega arith))
       ∙ ap some (append-nil (take i es) ∙ take-all i es (omega (arith, v .places)))
 
-  module _ (inside : i < 64) (part : List ℕ) (there : part ≡ take (length s - entrySize * i) (drop (entrySize * i) s)) (ok : Bool) (e : Entry)
-      (found : unpackOf entries (take entrySize part) ≡ onlyIf ok (some e)) where
-    here : behind (take i es) (joined (onlyIf ok (some e)) (entriesIn (64 - (i + 1)) (drop (entrySize * (i + 1)) s))) ≡ entriesIn 64 s
+  module _ (inside : i < 64) (part : List ℕ) (there : part ≡ take (length s - entrySize * i) (drop (entrySize * i) s)) where
+    here : behind (take i es) (joined (unpackOf entries (take entrySize part)) (entriesIn (64 - (i + 1)) (drop (entrySize * (i + 1)) s))) ≡ entriesIn 64 s
     here =
         let whole : part ≡ drop (entrySize * i) s =
         there ∙ take-all (length s - entrySize * i) (drop (entrySize * i) s) (omega (arith, length-drop (entrySize * i) s)) in
@@ -65,22 +73,26 @@ module _ (s : List ℕ) (i : ℕ) (es : List Entry) (v : Reading s i es) where
         let next : drop entrySize (drop (entrySize * i) s) ≡ drop (entrySize * (i + 1)) s =
         drop-drop entrySize (entrySize * i) s ∙ ap (λ (k : ℕ). drop k s) moved in
         ap (behind (take i es))
-        (ap₂ joined (sym found ∙ ap (λ (t : List ℕ). unpackOf entries (take entrySize t)) whole) (ap (entriesIn (64 - (i + 1))) (sym next))
+        (ap₂ joined (ap (λ (t : List ℕ). unpackOf entries (take entrySize t)) whole) (ap (entriesIn (64 - (i + 1))) (sym next))
         ∙ sym (next-entry (64 - i) (64 - (i + 1)) (drop (entrySize * i) s) (omega arith)))
         ∙ v .left
 
-    pub read-fail : ok ≡ false → entriesIn 64 s ≡ none
-    read-fail h = sym here ∙ ap (λ (b : Bool). behind (take i es) (joined (onlyIf b (some e)) (entriesIn (64 - (i + 1)) (drop (entrySize * (i + 1)) s)))) h
+    -- what is left, by what this place holds
+    abbrev left-by : Option Entry → Option (List Entry)
+    left-by o = behind (take i es) (joined o (entriesIn (64 - (i + 1)) (drop (entrySize * (i + 1)) s)))
 
-    pub read-past : ok ≡ true → Reading s (i + 1) (set es i e)
-    read-past h = record {
+    pub read-fail : Nothing ≡ placeOf (unpackOf entries (take entrySize part)) → entriesIn 64 s ≡ none
+    read-fail h = sym here ∙ ap left-by (no-place (unpackOf entries (take entrySize part)) h)
+
+    pub read-past : (e : Entry) → Holding e ≡ placeOf (unpackOf entries (take entrySize part)) → Reading s (i + 1) (set es i e)
+    read-past e h = record {
       within = omega arith;
       places = length-set es i e ∙ v .places;
       left =
           ap (λ (l : List Entry). behind l (entriesIn (64 - (i + 1)) (drop (entrySize * (i + 1)) s)))
           (ap (λ (k : ℕ). take k (set es i e)) (add-one i) ∙ take-suc-set es i e (omega (arith, v .places)))
           ∙ sym (behind-one (take i es) e (entriesIn (64 - (i + 1)) (drop (entrySize * (i + 1)) s)))
-          ∙ ap (λ (b : Bool). behind (take i es) (joined (onlyIf b (some e)) (entriesIn (64 - (i + 1)) (drop (entrySize * (i + 1)) s)))) (sym h)
+          ∙ ap left-by (sym (held-place (unpackOf entries (take entrySize part)) e h))
           ∙ here;
     }
 

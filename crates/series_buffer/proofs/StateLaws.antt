@@ -16,12 +16,23 @@ use Rattle.packing.proofs.CodecLaws.{packs-fit, length-bytes}
 use Rattle.book.specs.declared.Entry.{Entry}
 use Rattle.series.specs.declared.Series.{Series}
 use Rattle.series_buffer.specs.declared.Header.{Header}
+use Rattle.series_buffer.specs.declared.head.Found.{Found}
+use Rattle.series_buffer.specs.declared.places.All.{All}
 use Rattle.series_buffer.specs.Header.{headerSize, headers}
 use Rattle.series_buffer.specs.Entry.{entries}
-use Rattle.series_buffer.specs.State.{placesSize, stateSize, headerOf, seriesOf, made, entriesIn, unpackSeries}
+use Rattle.series_buffer.specs.State.{placesSize, stateSize, headerOf, seriesOf, made, entriesIn, unpackSeries, headerFound, entriesFound}
 use Rattle.series_buffer.specs.State.{packsSeries, entriesBytes, seriesBytes, isStored, bufferAfter}
 use Rattle.series_buffer.proofs.HeaderLaws.{lawful}
 use Rattle.series_buffer.proofs.PlacesLaws.{length-entries}
+
+-- the answers for header and places say what their bytes unpack to
+pub header-said : (o : Option Header) (r : Found) → r ≡ headerFound o → o ≡ onlyIf (r .ok) (some (r .header))
+header-said none r e = sym (ap (λ (x : Found). onlyIf (x .ok) (some (x .header))) e)
+header-said (some h) r e = sym (ap (λ (x : Found). onlyIf (x .ok) (some (x .header))) e)
+
+pub entries-said : (o : Option (List Entry)) (r : All) → r ≡ entriesFound o → o ≡ onlyIf (r .ok) (some (r .entries))
+entries-said none r e = sym (ap (λ (x : All). onlyIf (x .ok) (some (x .entries))) e)
+entries-said (some es) r e = sym (ap (λ (x : All). onlyIf (x .ok) (some (x .entries))) e)
 
 module _ (s : List ℕ) where
   pub other-length : (length s ≡ stateSize → ⊥) → unpackSeries s ≡ none

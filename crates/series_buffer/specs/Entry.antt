@@ -3,13 +3,15 @@
 use Prim.Native.Nat.{ℕ}
 use mathlib.Core.Bool.{true, cond}
 use mathlib.Core.List.{List, [], _∷_}
-use mathlib.Core.Option.{some}
+use mathlib.Core.Option.{Option, none, some}
 use lib.Dec.{eqb}
 use lib.ListN.{getD}
 use Rattle.packing.specs.Codec.{Codec, bit}
 use Rattle.book.specs.declared.Entry.{Entry}
 use Rattle.book.specs.declared.Pricing.{Pricing}
 use Rattle.book.specs.declared.Pricing.the-variants.{Fixed, Dark, Sliding}
+use Rattle.series_buffer.specs.declared.places.Place.{Place}
+use Rattle.series_buffer.specs.declared.places.Place.the-variants.{Nothing, Holding}
 
 -- how many bytes one has
 abbrev pub entrySize : ℕ
@@ -62,3 +64,8 @@ entryBy l = record {
 -- whether the values are legal is not asked here: that is soundness
 abbrev pub entries : Codec Entry
 entries = record { widths = widths; size = entrySize; code = codeOf; claimed = λ l. some (entryBy l); admitted = λ _. true }
+
+-- the answer in Rattle's type
+abbrev pub placeOf : Option Entry → Place
+placeOf none = Nothing
+placeOf (some e) = Holding e

@@ -13,6 +13,8 @@ use Rattle.series.specs.declared.Series.{Series}
 use Rattle.series.specs.Series.{noSeries}
 use Rattle.series_buffer.specs.declared.Header.{Header}
 use Rattle.series_buffer.specs.declared.Unpacked.{Unpacked}
+use Rattle.series_buffer.specs.declared.head.Found.{Found}
+use Rattle.series_buffer.specs.declared.places.All.{All}
 use Rattle.series_buffer.specs.Header.{headers, headerSize}
 use Rattle.series_buffer.specs.Entry.{entries, entrySize}
 
@@ -74,6 +76,15 @@ packSeries s = onlyIf (packsSeries s) (some (seriesBytes s))
 abbrev pub unpacked : Option Series → Unpacked
 unpacked none = record { ok = false; series = noSeries }
 unpacked (some s) = record { ok = true; series = s }
+
+-- where there is no header, the answer holds one of zeros; where a place is no entry's, 64 zero entries: those of that series
+abbrev pub headerFound : Option Header → Found
+headerFound none = record { ok = false; header = headerOf noSeries }
+headerFound (some h) = record { ok = true; header = h }
+
+abbrev pub entriesFound : Option (List Entry) → All
+entriesFound none = record { ok = false; entries = noSeries .book .entries }
+entriesFound (some es) = record { ok = true; entries = es }
 
 -- a series is put into a buffer of the right length if it packs, and otherwise the buffer stays as it was
 unfoldable pub isStored : List ℕ → Series → Bool

@@ -3,13 +3,14 @@ use crate::Header;
 use terms::Terms;
 ghost use mathlib.Core.Path.{_≡_};
 ghost use mathlib.Core.List.{map};
-ghost use mathlib.Core.Option.{some};
 ghost use Prim.Native.Nat.{_≤_};
 ghost use lib.ListN.{length, take, drop};
-ghost use Rattle.packing.specs.Codec.{onlyIf, bytesOf, packs, unpackOf};
+ghost use Rattle.packing.specs.Codec.{bytesOf, packs, unpackOf};
+ghost use Rattle.series.specs.Series.{noSeries};
 ghost use Rattle.series_buffer.specs.Header.{headers, codeOf, isSet, headerBy};
+ghost use Rattle.series_buffer.specs.State.{headerOf, headerFound};
 
-// Whether there is a header, and which.
+// Whether there is a header, and which: zeros, if there is none.
 pub struct Found {
     pub ok: bool,
     pub header: Header,
@@ -138,10 +139,18 @@ fn header_by(xs: [u32; 27]) -> Header
     }
 }
 
+// What stands where there is no header.
+fn no_header() -> Header
+    ensures { λ r. ⌜ r ≡ headerOf noSeries ⌝ }
+{
+    let xs = [0u32; 27];
+    header_by(xs)
+}
+
 // The header of the first 28 bytes, if they are just its own.
 pub fn unpack(s: &[u8]) -> Found
     requires { ⌜ headers .size ≤ length (now s) ⌝ }
-    ensures { λ r. ⌜ unpackOf headers (take (headers .size) (now (s .entry))) ≡ onlyIf (r .ok) (some (r .header)) ⌝ }
+    ensures { λ r. ⌜ r ≡ headerFound (unpackOf headers (take (headers .size) (now (s .entry)))) ⌝ }
 {
     let mut xs = [0u32; 27];
     let ws = WIDTHS;
@@ -149,6 +158,13 @@ pub fn unpack(s: &[u8]) -> Found
     let header = header_by(xs);
     let ys = code(header);
     let ok = bits::tests::same(&ys, &xs);
+    if !ok {
+        let zeros = no_header();
+        return Found {
+            ok: false,
+            header: zeros,
+        };
+    }
     Found { ok, header }
 }
 

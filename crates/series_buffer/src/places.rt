@@ -3,21 +3,21 @@ use book::Entry;
 use book::Pricing;
 use book::entries::zero_entry;
 ghost use mathlib.Core.Path.{_≡_};
-ghost use mathlib.Core.Option.{some};
 ghost use Prim.Native.Nat.{_≤_, _<_};
 ghost use lib.ListN.{length, take, getD};
 ghost use Rattle.lists.specs.Tests.{all};
-ghost use Rattle.packing.specs.Codec.{onlyIf, bytesOf, packs, unpackOf};
-ghost use Rattle.series_buffer.specs.Entry.{entries, codeOf, pricingNumber, ownDisplay, pricingBy, entryBy};
-ghost use Rattle.series_buffer.specs.State.{placesSize, entriesIn, entriesBytes};
+ghost use Rattle.series.specs.Series.{noSeries};
+ghost use Rattle.packing.specs.Codec.{bytesOf, packs, unpackOf};
+ghost use Rattle.series_buffer.specs.Entry.{entries, codeOf, pricingNumber, ownDisplay, pricingBy, entryBy, placeOf};
+ghost use Rattle.series_buffer.specs.State.{placesSize, entriesIn, entriesFound, entriesBytes};
 
-// Whether there is an entry, and which.
-pub struct Found {
-    pub ok: bool,
-    pub entry: Entry,
+// What a place holds: an entry, or bytes that are no entry's.
+pub enum Place {
+    Nothing,
+    Holding(Entry),
 }
 
-// The same of all places.
+// Whether each of the 64 places holds one, and which: zeros, if one of them does not.
 pub struct All {
     pub ok: bool,
     pub entries: [Entry; 64],
@@ -100,9 +100,9 @@ fn entry_by(xs: [u32; 9]) -> Entry
 }
 
 // The entry of the first 24 bytes, if they are just its own.
-fn unpack(s: &[u8]) -> Found
+fn unpack(s: &[u8]) -> Place
     requires { ⌜ entries .size ≤ length (now s) ⌝ }
-    ensures { λ r. ⌜ unpackOf entries (take (entries .size) (now (s .entry))) ≡ onlyIf (r .ok) (some (r .entry)) ⌝ }
+    ensures { λ r. ⌜ r ≡ placeOf (unpackOf entries (take (entries .size) (now (s .entry)))) ⌝ }
 {
     let mut xs = [0u32; 9];
     let ws = WIDTHS;
@@ -110,24 +110,37 @@ fn unpack(s: &[u8]) -> Found
     let entry = entry_by(xs);
     let ys = code(entry);
     let ok = bits::tests::same(&ys, &xs);
-    Found { ok, entry }
+    if !ok {
+        return Place::Nothing;
+    }
+    Place::Holding(entry)
+}
+
+// What stands where there are no entries.
+fn no_entries() -> [Entry; 64]
+    ensures { λ r. ⌜ r ≡ noSeries .book .entries ⌝ }
+{
+    let unused = zero_entry();
+    [unused; 64]
 }
 
 // The 64 places, if each of them is an entry's.
 pub fn unpack_all(s: &[u8]) -> All
     requires { ⌜ length (now s) ≡ placesSize ⌝ }
-    ensures { λ r. ⌜ entriesIn 64 (now (s .entry)) ≡ onlyIf (r .ok) (some (r .entries)) ⌝ }
+    ensures { λ r. ⌜ r ≡ entriesFound (entriesIn 64 (now (s .entry))) ⌝ }
 {
-    let unused = zero_entry();
-    let mut entries = [unused; 64];
+    let mut entries = no_entries();
     let mut i = 0usize;
     while i < 64 {
         let at = SIZE * i;
-        let found = unpack(&s[at..]);
-        if !found.ok {
-            return All { ok: false, entries };
-        }
-        let entry = found.entry;
+        let place = unpack(&s[at..]);
+        let Place::Holding(entry) = place else {
+            let zeros = no_entries();
+            return All {
+                ok: false,
+                entries: zeros,
+            };
+        };
         entries[i] = entry;
         i += 1;
     }

@@ -1,17 +1,18 @@
 -- What a check without a series says of every series with that M.
 -- Assumes nothing.
 use Prim.Native.Nat.{ℕ, _≤_}
-use mathlib.Core.Path.{_≡_, refl, sym, ap, _∙_, subst}
+use mathlib.Core.Path.{_≡_, refl, sym, _∙_, subst}
 use mathlib.Core.Bool.{Bool, true, false, cond, not}
-use mathlib.Core.List.{List, [], _∷_, _++_}
+use mathlib.Core.List.{List}
 use mathlib.Core.Option.{Option, none, some}
 use native.Mathlib.Omega.{arith}
 use lib.Dec.{ltb}
 use lib.ListN.{length, drop}
 use borrow.Author.Tests.{le-ltb}
 use Rattle.prices.specs.Step.{mpv}
-use Rattle.lists.specs.Tests.{All}
+use Rattle.lists.specs.Tests.{firstHolding}
 use Rattle.lists.proofs.Bools.{and-left}
+use Rattle.lists.proofs.FirstLaws.{first-none, first-other, first-front, first-behind}
 use Rattle.packing.specs.declared.message.Event.{Event}
 use Rattle.packing.specs.Codec.{unpackOf}
 use Rattle.packing.specs.Message.{messages}
@@ -19,9 +20,9 @@ use Rattle.packing.specs.Room.{roomSize}
 use Rattle.series.specs.declared.Series.{Series}
 use Rattle.series.specs.Series.{soundSeries, soundTerms}
 use Rattle.handler.specs.Asked.{askOf}
-use Rattle.handler.specs.Refuse.{firstHolding, refusals}
+use Rattle.handler.specs.Refuse.{refusals}
 use Rattle.handler.specs.Handle.{handled}
-use Rattle.handler.proofs.Refusals.{table, first-none, refusals-in-order}
+use Rattle.handler.proofs.Refusals.{table, refusals-in-order}
 use Rattle.server.specs.Check.{faults, faultOf, checkAs, check}
 
 -- ---- what the code cites ----
@@ -35,29 +36,6 @@ unfolding checkAs
 check-read event m u h e = rw (h, e) refl
 
 -- ---- with a series at hand ----
-
--- a number that none of the tests has is not that of the first
-first-other : (ts : List (ℕ × Bool)) (n : ℕ) → All (λ (t : ℕ × Bool). t .0 ≡ n → ⊥) ts → (n ≡ 0 → ⊥) → firstHolding ts ≡ n → ⊥
-first-other [] n a z h = z (sym h)
-first-other (t ∷ ts) n a z h = by (t .1) h (first-other ts n (a .1) z)
-  where
-    by : (b : Bool) → cond b (t .0) (firstHolding ts) ≡ n → (firstHolding ts ≡ n → ⊥) → ⊥
-    by true k more = a .0 k
-    by false k more = more k
-
--- the first of a list and more behind it
-first-front : (ts us : List (ℕ × Bool)) → (firstHolding ts ≡ 0 → ⊥) → firstHolding (ts ++ us) ≡ firstHolding ts
-first-front [] us h = absurd (h refl)
-first-front (t ∷ ts) us h = by (t .1) h (first-front ts us)
-  where
-    by : (b : Bool) → (cond b (t .0) (firstHolding ts) ≡ 0 → ⊥) → ((firstHolding ts ≡ 0 → ⊥) → firstHolding (ts ++ us) ≡ firstHolding ts)
-        → cond b (t .0) (firstHolding (ts ++ us)) ≡ cond b (t .0) (firstHolding ts)
-    by true k more = refl
-    by false k more = more k
-
-first-behind : (ts us : List (ℕ × Bool)) → All (λ (t : ℕ × Bool). t .1 ≡ false) ts → firstHolding (ts ++ us) ≡ firstHolding us
-first-behind [] us a = refl
-first-behind (t ∷ ts) us a = rw (a .0) (first-behind ts us (a .1))
 
 -- what the number of a check says of a refusal: a fault is the refusal; where there is none, the refusal is none of 1 to 4
 pub record Foretells (checked refusal : ℕ) : Type 0 where

@@ -4,13 +4,14 @@ use Prim.Native.Nat.{ℕ}
 use mathlib.Core.Bool.{Bool, cond}
 use mathlib.Core.List.{List, [], _∷_}
 use mathlib.Core.Option.{Option, none, some}
+use Rattle.lists.specs.Tests.{firstHolding}
 use Rattle.prices.specs.Step.{mpv}
 use Rattle.packing.specs.declared.message.Event.{Event}
 use Rattle.packing.specs.Codec.{nothing, unpackOf, answerOf}
 use Rattle.packing.specs.Message.{messages}
 use Rattle.handler.specs.declared.Ask.{Ask}
 use Rattle.handler.specs.Asked.{askOf}
-use Rattle.handler.specs.Refuse.{badParty, badPrice, badQuantity, firstHolding}
+use Rattle.handler.specs.Refuse.{badParty, badPrice, badQuantity}
 
 -- IS THIS A MESSAGE? 0, or 1 for bytes that unpack to none
 abbrev pub isMessage : List ℕ → ℕ

@@ -13,7 +13,7 @@ ghost use mathlib.Core.Bool.{true};
 ghost use Rattle.prices.specs.Step.{mpv};
 ghost use Rattle.packing.specs.Message.{messageAt, eventIn, saidBy};
 ghost use Rattle.handler.specs.Asked.{askOf};
-ghost use Rattle.handler.specs.Refuse.{firstHolding};
+ghost use Rattle.lists.specs.Tests.{firstHolding};
 ghost use Rattle.server.specs.Check.{isMessage, faults, checkAs, check};
 
 // The number of an unpacker's answer: 0 for a message, 1 for none.

@@ -1,7 +1,8 @@
 // Standard input, read as it comes: what is at hand is used before more is waited for.
 use libc::STDIN_FILENO;
-ghost use Prim.Native.Nat.{_+_, _≤_};
-ghost use lib.ListN.{length};
+ghost use Prim.Native.Nat.{_+_, _-_, _≤_};
+ghost use mathlib.Core.Path.{_≡_};
+ghost use lib.ListN.{length, take, drop};
 
 // How many bytes are held, or came, and whether a read has failed.
 pub(crate) struct Held {
@@ -9,10 +10,10 @@ pub(crate) struct Held {
     pub failed: bool,
 }
 
-// One read behind the bytes that are held; none come at the end of the input.
+// One read behind the bytes that are held, which stay; none come at the end of the input.
 fn read_behind(bytes: &mut [u8], held: usize) -> Held
     requires { ⌜ held ≤ length (now bytes) ⌝ }
-    ensures { λ r. ⌜ held + r .count ≤ length (now (bytes .exit)) ⌝ }
+    ensures { λ r. ⌜ (held + r .count ≤ length (now (bytes .exit))) × (take held (now (bytes .exit)) ≡ take held (now (bytes .entry))) ⌝ }
 {
     let part = &mut bytes[held..];
     let got = libc::read(STDIN_FILENO, part);
@@ -23,10 +24,10 @@ fn read_behind(bytes: &mut [u8], held: usize) -> Held
     }
 }
 
-// Reads on until at least `wanted` bytes are held, the input ends or a read fails.
+// Reads on until at least `wanted` bytes are held, the input ends or a read fails. What was held stays in front.
 pub(crate) fn fill(bytes: &mut [u8], count: usize, wanted: usize) -> Held
     requires { ⌜ (count ≤ length (now bytes)) × (length (now bytes) ≤ 65536) ⌝ }
-    ensures { λ r. ⌜ r .count ≤ length (now (bytes .exit)) ⌝ }
+    ensures { λ r. ⌜ (count ≤ r .count) × (r .count ≤ length (now (bytes .exit))) × (take count (now (bytes .exit)) ≡ take count (now (bytes .entry))) ⌝ }
 {
     let mut held = count;
     let mut failed = false;
@@ -47,7 +48,7 @@ pub(crate) fn fill(bytes: &mut [u8], count: usize, wanted: usize) -> Held
 // Moves the bytes from `at` to `held` to the front, and answers how many they are.
 pub(crate) fn keep(bytes: &mut [u8], at: usize, held: usize) -> usize
     requires { ⌜ (at ≤ held) × (held ≤ length (now bytes)) ⌝ }
-    ensures { λ r. ⌜ at + r ≤ length (now (bytes .exit)) ⌝ }
+    ensures { λ r. ⌜ (r ≡ held - at) × (take (held - at) (now (bytes .exit)) ≡ take (held - at) (drop at (now (bytes .entry)))) ⌝ }
 {
     let left = held - at;
     let mut i = 0usize;

@@ -5,6 +5,9 @@ pub mod Keeps
 pub mod Packs
 pub mod Takers
 pub mod Quiet
+pub mod AtPeace
+pub mod Calm
 pub mod Within
 pub mod Stays
 pub mod Settles
+pub mod SettleTells

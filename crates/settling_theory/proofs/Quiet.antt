@@ -2,23 +2,21 @@
 -- Assumes nothing.
 use Prim.Native.Nat.{ℕ}
 use mathlib.Core.Path.{_≡_, refl, ap}
-use mathlib.Core.Bool.{Bool, true, false, not, _&&_}
+use mathlib.Core.Bool.{Bool, false}
 use mathlib.Core.List.{List}
 use native.Mathlib.Omega.{arith}
-use lib.Dec.{eqb}
-use borrow.Author.Tests.{eqb-true, not-false}
 use Rattle.prices.specs.declared.Prices.{Prices}
 use Rattle.prices.specs.declared.Market.{Market}
 use Rattle.prices.specs.Aims.{aims}
-use Rattle.prices.specs.Rest.{marketable, restingPrices, atRest, stirsAt}
+use Rattle.prices.specs.Rest.{stirsAt}
 use Rattle.prices.proofs.FrameLaws.{seen}
 use Rattle.prices.proofs.StepLaws.{Mpv, LegalIfAny}
 use Rattle.prices.proofs.AimLaws.{aims-away}
 use Rattle.prices.proofs.RestLaws.{Slides, Eased, moved-display, moved-working}
 use Rattle.prices.proofs.QuoteLaws.{aim-aimed}
+use Rattle.prices.proofs.RestingLaws.{unstirred-prices}
 use Rattle.lists.specs.Places.{At}
 use Rattle.lists.specs.Run.{still}
-use Rattle.lists.proofs.Bools.{and-left, and-right, or-false-right}
 use Rattle.lists.proofs.TestLaws.{all-at, any-false}
 use Rattle.lists.proofs.ChooseLaws.{Nobody}
 use Rattle.lists.proofs.RunLaws.{run-stop}
@@ -37,25 +35,14 @@ use Rattle.settling_theory.proofs.EaseRule.{eased-is-uneased}
 -- a quote at its resting prices is eased
 rests-eased : {m l a c d w : ℕ} (kind : ℕ) (s : Bool) → Mpv m → LegalIfAny m a → LegalIfAny m c → Slides m s l d w → stirsAt m kind s l a c d w ≡ false
     → Eased s a d w
-unfolding stirsAt atRest
-rests-eased {m} {l} {a} {c} {d} {w} kind s v ga gc sl h = record {
-  eased =
-      omega
-      (arith, moved-display s d p, moved-working s d p, aims-away s v ga p (aim-aimed kind s v ga gc sl), ap (seen s) same-display, ap (seen s) same-working);
-}
-  where
-    p : Prices
-    p = aims m kind s l a c
-
-    rest : (eqb d (restingPrices s d (aims m kind s l a c) .display) && eqb w (restingPrices s d (aims m kind s l a c) .working)) ≡ true
-    rest = not-false (eqb d (restingPrices s d p .display) && eqb w (restingPrices s d p .working))
-        (or-false-right (marketable kind s c p) (not (eqb d (restingPrices s d p .display) && eqb w (restingPrices s d p .working))) h)
-
-    same-display : d ≡ restingPrices s d (aims m kind s l a c) .display
-    same-display = eqb-true d (restingPrices s d p .display) (and-left (eqb d (restingPrices s d p .display)) (eqb w (restingPrices s d p .working)) rest)
-
-    same-working : w ≡ restingPrices s d (aims m kind s l a c) .working
-    same-working = eqb-true w (restingPrices s d p .working) (and-right (eqb d (restingPrices s d p .display)) (eqb w (restingPrices s d p .working)) rest)
+rests-eased {m} {l} {a} {c} {d} {w} kind s v ga gc sl h =
+    let p : Prices = aims m kind s l a c in
+    let same = unstirred-prices m kind s l a c d w h in
+    record {
+      eased =
+          omega
+          (arith, moved-display s d p, moved-working s d p, aims-away s v ga p (aim-aimed kind s v ga gc sl), ap (seen s) (same .0), ap (seen s) (same .1));
+    }
 
 module _ {k : Market} {top : ℕ} {l : List Entry} (mk : MarketFacts k) (so : Sound (k .m) top l) where
   -- WHO IS TO BE EASED STIRS

@@ -9,8 +9,6 @@ use lib.Dec.{eqb}
 use borrow.Author.Tests.{eqb-true, eqb-false}
 use Rattle.prices.specs.declared.Market.{Market}
 use Rattle.lists.specs.Tests.{All}
-use Rattle.lists.proofs.RunLaws.{complete-tells}
-use Rattle.lists.proofs.TestLaws.{all-append}
 use Rattle.packing.specs.declared.report.Report.{Report}
 use Rattle.packing.specs.declared.report.Report.the-variants.{Noted, Rejected, Traded, Rested, Repriced, Cancelled}
 use Rattle.book.specs.declared.Entry.{Entry}
@@ -21,6 +19,7 @@ use Rattle.settling_theory.specs.Settle.{eased, stirred, settled}
 use Rattle.settling_theory.proofs.Shapes.{EaseStep, eased-at, ease-step, StirStep, traded-at, moved-at, stir-step}
 use Rattle.settling_theory.proofs.StirRule.{trade-apart}
 use Rattle.settling_theory.proofs.Settles.{settles}
+use Rattle.settling_theory.proofs.SettleTells.{settled-says}
 
 ease-stays : {k : Market} {l t : List Entry} {r : Report} (n : ℕ) → EaseStep k l r t → Numbered l n → Numbered t n ⊎ TradeNames n r
 ease-stays {l = l} n (eased-at {i = i} {e = e} c) h = inl (requeue-stays i l e _ n (c .there) refl h)
@@ -68,16 +67,5 @@ TradesOrMoves (Rested s party number display working quantity) = ⊥
 TradesOrMoves (Repriced s party number display working quantity) = Unit {0}
 TradesOrMoves (Cancelled why s party number limit quantity) = ⊥
 
-ease-moves : {k : Market} {l t : List Entry} {r : Report} → EaseStep k l r t → TradesOrMoves r
-ease-moves (eased-at c) = tt
-
-stir-moves : {k : Market} {l t : List Entry} {r : Report} → StirStep k l r t → TradesOrMoves r
-stir-moves (traded-at c m b) = tt
-stir-moves (moved-at c m) = tt
-
 pub settled-moves : {k : Market} {l : List Entry} → SoundFor k l → All TradesOrMoves (settled k l .records)
-unfolding settled
-settled-moves {k} {l} s =
-    all-append TradesOrMoves (eased k l .records) (stirred k (eased k l .final) .records)
-    (complete-tells (λ _. Unit {0}) TradesOrMoves (λ u r t h e. tt) (λ u r t h e. ease-moves (ease-step k u e)) tt (settles s .easing-run))
-    (complete-tells (λ _. Unit {0}) TradesOrMoves (λ u r t h e. tt) (λ u r t h e. stir-moves (stir-step k u e)) tt (settles s .stirring-run))
+settled-moves s = settled-says TradesOrMoves (λ x. tt) (λ x y q. tt) s

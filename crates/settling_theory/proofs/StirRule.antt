@@ -84,7 +84,7 @@ module _ (k : Market) where
   stirring-as c e (Sliding d) f z t = record { able = f .able; slides = f .slides; eased = z }
 
 module _ (k : Market) (mk : MarketFacts k) {top : ℕ} where
-  stirs : {l : List Entry} {i : ℕ} {e : Entry} → Easy k top l → First (stirring k l) l i e → Stirs k e (display e)
+  pub stirs : {l : List Entry} {i : ℕ} {e : Entry} → Easy k top l → First (stirring k l) l i e → Stirs k e (display e)
   stirs {l = l} {i = i} {e = e} ea c =
       stirring-as k (contra (e .sell) l) e (e .pricing) (here-facts (ea .sound) i e (c .there) .prices)
       (all-at (EntryEased k) l i e (ea .eased) (c .there) .eased) (c .passes)

@@ -4,7 +4,7 @@ use Prim.Native.Nat.{ℕ, _-_, _≤_, _<_}
 use mathlib.Core.Path.{_≡_, refl, sym, ap, _∙_}
 use mathlib.Core.Bool.{Bool, true, false, not, _&&_, and-true, and-false}
 use mathlib.Core.List.{List, [], _∷_}
-use borrow.Author.Tests.{eqb-true, not-true, le-leb, lt-leb}
+use borrow.Author.Tests.{eqb-true, not-true, leb-true, le-leb, lt-leb}
 use lib.Dec.{eqb, leb}
 use lib.ListN.{length, drop, replicate, length-drop}
 use Rattle.prices.specs.Step.{mpv}
@@ -14,7 +14,7 @@ use Rattle.book.specs.declared.Entry.{Entry}
 use Rattle.book.specs.declared.Book.{Book}
 use Rattle.book.specs.declared.Pricing.{Pricing}
 use Rattle.book.specs.declared.Pricing.the-variants.{Fixed, Dark, Sliding}
-use Rattle.book.specs.Shape.{zeroEntry, entriesOf}
+use Rattle.book.specs.Shape.{zeroEntry, entriesOf, WellFormed}
 use Rattle.soundness_theory.specs.Sound.{fixedPricing, unusedEntry, soundEntries, soundBook}
 use Rattle.soundness.specs.declared.Check.{Check}
 use Rattle.soundness.specs.Summary.{unsound, Passed, Checked}
@@ -60,6 +60,24 @@ zeros (x ∷ l) h =
     let l-zeros : l ≡ replicate (length l) zeroEntry = zeros l (and-right (unusedEntry x) (all unusedEntry l) h) in
     λ i. x-zero i ∷ l-zeros i
 
+-- a book of 64 places whose unused ones hold nothing is well-formed
+pub clean-well : {b : Book} → b .count ≤ 64 → length (b .entries) ≡ 64 → all unusedEntry (drop (b .count) (b .entries)) ≡ true → WellFormed b
+clean-well {b} few places unused = record {
+  few = few;
+  places = places;
+  unused = zeros (drop (b .count) (b .entries)) unused
+      ∙ ap (λ (n : ℕ). replicate n zeroEntry) (length-drop (b .count) (b .entries) ∙ ap (λ (n : ℕ). n - b .count) places);
+}
+
+-- and so is a sound one; that it has 64 places is the array's type
+pub sound-well : (m given : ℕ) (b : Book) → soundBook m given b ≡ true → length (b .entries) ≡ 64 → WellFormed b
+unfolding soundBook
+sound-well m given b h places =
+    let rest = all unusedEntry (drop (b .count) (b .entries)) in
+    let resting = soundEntries m given (entriesOf b) in
+    clean-well (leb-true (b .count) 64 (and-left (leb (b .count) 64) (resting && rest) h)) places
+    (and-right resting rest (and-right (leb (b .count) 64) (resting && rest) h))
+
 -- ---- the answer for the whole book ----
 
 module _ (m given : ℕ) (b : Book) where
@@ -93,12 +111,7 @@ module _ {m given : ℕ} {b : Book} {r : Check} where
   unfolding soundBook
   judged v few places unused p = record {
     verdict = p .verdict ∙ sym (rw (v, le-leb (b .count) 64 few, unused) (and-true (soundEntries m given (entriesOf b))));
-    well = λ _. record {
-      few = few;
-      places = places;
-      unused = zeros (drop (b .count) (b .entries)) unused
-          ∙ ap (λ (n : ℕ). replicate n zeroEntry) (length-drop (b .count) (b .entries) ∙ ap (λ (n : ℕ). n - b .count) places);
-    };
+    well = λ _. clean-well few places unused;
     summary = p .summary;
     nothing = p .nothing;
   }

@@ -16,10 +16,9 @@ use Rattle.lists.proofs.ChooseLaws.{found-stays}
 use Rattle.book.specs.declared.Entry.{Entry}
 use Rattle.book.specs.declared.Book.{Book}
 use Rattle.book.specs.Entries.{quoteOf, display}
-use Rattle.book.specs.Shape.{entriesOf}
 use Rattle.book.specs.Look.{quoteIn, contra, national}
 use Rattle.soundness.specs.declared.Check.{Check}
-use Rattle.soundness.specs.Summary.{seat, Seated, isFound, faced, facedShown, Summary, Checked}
+use Rattle.soundness.specs.Summary.{seat, Seated, isFound, faced, facedShown, unsound, Summary, Passed, Checked}
 use Rattle.soundness.proofs.BestLaws.{nearest-away}
 
 -- ---- a maker has a quote just if a search finds it ----
@@ -84,17 +83,27 @@ seats-one l p q a b = ext-getD false p q (a .places ∙ sym (b .places)) (λ k h
             let there : k ≡ k - 16 + 16 = omega arith in
             rw there (a .makers (k - 16) true some high ∙ sym (b .makers (k - 16) true some high))
 
-pub checked-one : {m given : ℕ} {b : Book} {x y : Check} → Checked m given b x → Checked m given b y → x ≡ y
-checked-one {m} {given} {b} {x} {y} c d = go (x .ok) refl (y .ok) refl
-  where
-    same-ok : x .ok ≡ y .ok
-    same-ok = c .verdict ∙ sym (d .verdict)
+summary-one : {l : List Entry} {x y : Check} → x .ok ≡ y .ok → Summary l x → Summary l y → x ≡ y
+summary-one {l} {x} {y} same-ok p q =
+    same-check x y same-ok (p .bid ∙ sym (q .bid)) (p .offer ∙ sym (q .offer)) (p .shownbid ∙ sym (q .shownbid)) (p .shownoffer ∙ sym (q .shownoffer))
+    (p .quoted ∙ sym (q .quoted))
+    (seats-one l (x .seats) (y .seats) (p .seats) (q .seats))
 
-    go : (s : Bool) → x .ok ≡ s → (t : Bool) → y .ok ≡ t → x ≡ y
-    go false e t f = c .nothing e ∙ sym (d .nothing (sym same-ok ∙ e))
-    go true e t f =
-        let p = c .summary e in
-        let q = d .summary (sym same-ok ∙ e) in
-        same-check x y same-ok (p .bid ∙ sym (q .bid)) (p .offer ∙ sym (q .offer)) (p .shownbid ∙ sym (q .shownbid)) (p .shownoffer ∙ sym (q .shownoffer))
-        (p .quoted ∙ sym (q .quoted))
-        (seats-one (entriesOf b) (x .seats) (y .seats) (p .seats) (q .seats))
+-- two answers with one verdict are the same, where a sound verdict fixes them, and any other is always the same answer
+pub one-answer : {x y : Check} → x .ok ≡ y .ok → (x .ok ≡ true → y .ok ≡ true → x ≡ y) → (x .ok ≡ false → x ≡ unsound) → (y .ok ≡ false → y ≡ unsound) → x ≡ y
+one-answer {x} {y} same-ok sound nothing nothing′ = go (x .ok) refl
+  where
+    go : (v : Bool) → x .ok ≡ v → x ≡ y
+    go true e = sound e (sym same-ok ∙ e)
+    go false e = nothing e ∙ sym (nothing′ (sym same-ok ∙ e))
+
+-- THEOREM. THE PROMISE OF `check_book` FIXES ITS ANSWER, and so does that of `check_resting`: "Two outcomes allowed by one promise are proved equal"
+pub checked-one : {m given : ℕ} {b : Book} {x y : Check} → Checked m given b x → Checked m given b y → x ≡ y
+checked-one c d =
+    let same-ok = c .verdict ∙ sym (d .verdict) in
+    one-answer same-ok (λ h k. summary-one same-ok (c .summary h) (d .summary k)) (c .nothing) (d .nothing)
+
+pub passed-one : {m given : ℕ} {l : List Entry} {x y : Check} → Passed m given l x → Passed m given l y → x ≡ y
+passed-one c d =
+    let same-ok = c .verdict ∙ sym (d .verdict) in
+    one-answer same-ok (λ h k. summary-one same-ok (c .summary h) (d .summary k)) (c .nothing) (d .nothing)

@@ -4,6 +4,7 @@
 use Prim.Native.Nat.{ℕ, _+_, _≤_, _<_, _%_}
 use mathlib.Core.Path.{_≡_}
 use mathlib.Core.Bool.{Bool, true, false}
+use Rattle.prices.specs.Side.{Aggressive}
 use Rattle.prices.specs.Step.{topPrice}
 use Rattle.kinds.specs.Kinds.{enters, quotes, sliding, dark}
 use Rattle.lists.specs.Places.{At}
@@ -17,11 +18,6 @@ pub record LegalPrice (m p : ℕ) : Type 0 where
   pub from : m ≤ p
   pub to : p ≤ topPrice
   pub multiple : p % m ≡ 0
-
--- p is no less aggressive than q: to a buy no lower, to a sell no higher
-abbrev pub Aggressive : Bool → ℕ → ℕ → Type 0
-Aggressive false p q = q ≤ p
-Aggressive true p q = p ≤ q
 
 -- p is more aggressive than q by at most m
 abbrev pub AtMost : ℕ → Bool → ℕ → ℕ → Type 0

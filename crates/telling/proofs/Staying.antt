@@ -41,6 +41,18 @@ pub record TradeNamed (rs : List Report) (n : ℕ) : Type 0 where
   pub there : At rs place report
   pub names : TradeNames n report
 
+-- whether a report is of a trade; and that it is not
+abbrev pub isTrade : Report → Bool
+isTrade Noted = false
+isTrade (Rejected why s party number limit quantity) = false
+isTrade (Traded s party number other price quantity) = true
+isTrade (Rested s party number display working quantity) = false
+isTrade (Repriced s party number display working quantity) = false
+isTrade (Cancelled why s party number limit quantity) = false
+
+abbrev pub NoTrade : Report → Type 0
+NoTrade r = isTrade r ≡ false
+
 -- ---- a change of the book ----
 
 later : {l : List Entry} {n : ℕ} (y : Entry) → Numbered l n → Numbered (y ∷ l) n

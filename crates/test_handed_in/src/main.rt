@@ -9,6 +9,7 @@ mod tell;
 use handler::handle::handle;
 use libc::STDIN_FILENO;
 use libc::STDOUT_FILENO;
+use lines::line::LONGEST_ANSWER;
 use lines::line::answer_lines;
 use test_reading::number_at;
 use test_series_bytes::series_of;
@@ -57,8 +58,7 @@ fn try_case(bytes: &[u8], number: u64, out: &mut [u8])
 // As many cases as there are, and 1,000 at most.
 fn main() {
     let mut bytes = [0u8; 1614];
-    // 2,280 reports, in lines of 120 bytes
-    let mut out = [0u8; 273600];
+    let mut out = [0u8; LONGEST_ANSWER];
     let mut number: u64 = 1;
     while number <= 1000 {
         let n = io::read_full(STDIN_FILENO, &mut bytes);

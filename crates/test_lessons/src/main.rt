@@ -1,71 +1,44 @@
 // Plays every lesson of a bundle, one after the other, and prints under each one's name what the session program prints for it. The bundle
 // is what tests/bundle.py writes: of each lesson the length of its name and the name, the length of its bytes and the bytes. A length is
 // four bytes, most significant first.
-use handler::handle::handle_at;
 use libc::STDIN_FILENO;
 use libc::STDOUT_FILENO;
-use lines::line::answer_lines;
-use packing::message::SIZE as MESSAGE;
-use packing::room::ROOM;
-use packing::setup::SIZE as SETUP;
+use lines::line::LONGEST_ANSWER;
 use series::Series;
-use series::open::open_series;
 use test_reading::number_at;
+use transcript::tell_held;
+use transcript::tell_setup;
 ghost use Prim.Native.Nat.{_+_, _<_, _≤_, min};
 ghost use lib.ListN.{length};
-ghost use Rattle.io.specs.Counts.{Counts};
 
-fn print_answer(out: &mut [u8], number: u64, refusal: u32, count: usize, room: &[u8]) {
-    let end = answer_lines(out, 0, number, refusal, count, room);
-    io::write_all(STDOUT_FILENO, &out[..end]);
-}
-
-// Where the message behind the one at `at` stands, and the run's end behind a short one.
-fn next_place(at: usize, end: usize) -> usize
-    requires { ⌜ at < end ⌝ }
-    ensures { λ r. ⌜ (at < r) × (r ≤ end) ⌝ }
-{
-    if end - at < MESSAGE {
-        return end;
-    }
-    at + MESSAGE
-}
-
-fn play_messages(start: Series, run: &[u8], from: usize, room: &mut [u8], out: &mut [u8])
-    requires { ⌜ from ≤ length (now run) ⌝ }
+// Tells the messages from `first` on, as far as there is room for their lines, and writes these out, until all are told.
+fn tell_messages(start: Series, run: &[u8], first: usize, out: &mut [u8])
+    requires { ⌜ first ≤ length (now run) ⌝ }
 {
     let mut series = start;
     let mut number: u64 = 1;
-    let mut at = from;
+    let mut at = first;
     while at < run.len() {
-        let answer = handle_at(series, run, at, room);
-        print_answer(out, number, answer.refusal, answer.count, room);
-        let after = answer.series;
+        let told = tell_held(series, number, &run[at..], true, out);
+        io::write_all(STDOUT_FILENO, &out[..told.used]);
+        if told.at == 0 {
+            return;
+        }
+        let after = told.series;
         series = after;
-        number += 1;
-        at = next_place(at, run.len());
+        number = told.number;
+        at += told.at;
     }
 }
 
-// Where the setup ends.
-fn setup_end(run: &[u8]) -> usize
-    ensures { λ r. ⌜ Counts r (now (run .entry)) ⌝ }
-{
-    if run.len() < SETUP {
-        return run.len();
-    }
-    SETUP
-}
-
-fn play(run: &[u8], room: &mut [u8], out: &mut [u8]) {
-    let first = setup_end(run);
-    let made = open_series(&run[..first]);
-    if made.refusal != 0 {
-        print_answer(out, 0, made.refusal, 0, room);
+fn play(run: &[u8], out: &mut [u8]) {
+    let begun = tell_setup(run, out);
+    io::write_all(STDOUT_FILENO, &out[..begun.used]);
+    if begun.refusal != 0 {
         return;
     }
-    let series = made.series;
-    play_messages(series, run, first, room, out)
+    let series = begun.series;
+    tell_messages(series, run, begun.at, out)
 }
 
 // The end of the part of the bundle whose length stands at `at`; no more than the bundle's end.
@@ -101,7 +74,7 @@ fn print_name(name: &[u8]) {
     io::write_all(STDOUT_FILENO, b"\n");
 }
 
-fn play_all(bundle: &[u8], room: &mut [u8], out: &mut [u8]) {
+fn play_all(bundle: &[u8], out: &mut [u8]) {
     let mut at = 0usize;
     while at < bundle.len() {
         let named = part_end(bundle, at);
@@ -109,15 +82,14 @@ fn play_all(bundle: &[u8], room: &mut [u8], out: &mut [u8]) {
         print_name(&bundle[name..named]);
         let end = part_end(bundle, named);
         let start = part_start(named, end);
-        play(&bundle[start..end], room, out);
+        play(&bundle[start..end], out);
         at = end;
     }
 }
 
 fn main() {
     let mut bundle = [0u8; 262144];
-    let mut room = [0u8; ROOM];
-    let mut out = [0u8; 273600];
+    let mut out = [0u8; 2 * LONGEST_ANSWER];
     let n = io::read_full(STDIN_FILENO, &mut bundle);
-    play_all(&bundle[..n], &mut room, &mut out);
+    play_all(&bundle[..n], &mut out);
 }

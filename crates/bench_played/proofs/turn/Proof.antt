@@ -4,7 +4,8 @@ use mathlib.Core.Path.{ap, _∙_}
 use lib.ListN.{take, drop}
 use Rattle.packing.specs.Message.{messageAt}
 use Rattle.handler.specs.Handle.{Handled}
-use Rattle.bench_played.proofs.PlayedLaws.{count-few, part-back, lent, le-rw}
+use Rattle.handler.proofs.AnyRoom.{count-few}
+use Rattle.bench_played.proofs.PlayedLaws.{part-back, lent, le-rw}
 use borrow.Author.Needs.{needs}
 use Rattle.bench_played.proofs.turn.Statement.{statement}
 use Rattle.bench_played.proofs.turn.Tie as tie

@@ -1,18 +1,21 @@
 use Prim.Native.Nat.{_≤_, _-_}
-use mathlib.Core.Path.{_≡_}
-use lib.ListN.{length}
-use Rattle.packing.specs.Room.{roomSize}
+use mathlib.Core.Path.{_≡_, sym, ap, _∙_}
+use native.Mathlib.Omega.{arith}
+use lib.Dec.{ltb}
+use lib.ListN.{length, take}
+use Rattle.packing.specs.Message.{messageSize}
+use Rattle.transcript.specs.Held.{mostMessages, holdsNext}
+use Rattle.transcript.proofs.Progress.{holds-some, told-some}
 use borrow.Author.Needs.{needs}
 use Rattle.session.proofs.run.Statement.{statement}
 use Rattle.session.proofs.run.Tie as tie
 
 abbrev Inv-loop : tie.InvT-loop
-Inv-loop input₀ first count out₀ room₀ series₀ number₀ at₀ held₀ used₀ input out room series number at held used =
-    (number ≤ 1000000000000000000) × (at ≤ held) × (held ≤ length input) × (length input ≡ length input₀) × (length room ≡ roomSize) × (used ≤ length out)
-    × (length out ≡ length out₀)
+Inv-loop input₀ first count out₀ series₀ number₀ at₀ held₀ input out series number at held =
+    (at ≤ held) × (held ≤ length input) × (length input ≡ length input₀) × (length out ≡ length out₀)
 
 abbrev μ-loop : tie.MeasureT-loop
-μ-loop input₀ first count out₀ room₀ series₀ number₀ at₀ held₀ used₀ input out room series number at held used = 1000000000000000000 - number
+μ-loop input₀ first count out₀ series₀ number₀ at₀ held₀ input out series number at held = mostMessages - number
 
 loop-holds : tie.Need-loop-holds Inv-loop μ-loop
 loop-holds c = search needs
@@ -29,35 +32,17 @@ same-length-2 c = search needs
 returns : tie.Need-returns Inv-loop μ-loop
 returns c = search needs
 
-slice-reshare-prefix-handle-at : tie.Need-slice-reshare-prefix-handle-at Inv-loop μ-loop
-slice-reshare-prefix-handle-at c = search needs
+slice-reshare-prefix-tell-held : tie.Need-slice-reshare-prefix-tell-held Inv-loop μ-loop
+slice-reshare-prefix-tell-held c = search needs
 
-slice-aggregate-handle-at : tie.Need-slice-aggregate-handle-at Inv-loop μ-loop
-slice-aggregate-handle-at c = search needs
+slice-aggregate-tell-held : tie.Need-slice-aggregate-tell-held Inv-loop μ-loop
+slice-aggregate-tell-held c = search needs
 
-slice-aggregate-handle-at-2 : tie.Need-slice-aggregate-handle-at-2 Inv-loop μ-loop
-slice-aggregate-handle-at-2 c = search needs
+tell-held-requires : tie.Need-tell-held-requires Inv-loop μ-loop
+tell-held-requires c κs = search needs
 
-handle-at-requires : tie.Need-handle-at-requires Inv-loop μ-loop
-handle-at-requires c κs = search needs
-
-slice-aggregate-answer-lines : tie.Need-slice-aggregate-answer-lines Inv-loop μ-loop
-slice-aggregate-answer-lines c = search needs
-
-answer-lines-requires : tie.Need-answer-lines-requires Inv-loop μ-loop
-answer-lines-requires c κs = search needs
-
-place-behind-requires : tie.Need-place-behind-requires Inv-loop μ-loop
-place-behind-requires c κs = search needs
-
-add-number : tie.Need-add-number Inv-loop μ-loop
-add-number c = search needs
-
-loop-less : tie.Need-loop-less Inv-loop μ-loop
-loop-less c = search needs
-
-loop-again : tie.Need-loop-again Inv-loop μ-loop
-loop-again c = search needs
+is-out-requires : tie.Need-is-out-requires Inv-loop μ-loop
+is-out-requires c κs = search needs
 
 same-length-3 : tie.Need-same-length-3 Inv-loop μ-loop
 same-length-3 c = search needs
@@ -67,6 +52,33 @@ same-length-4 c = search needs
 
 returns-2 : tie.Need-returns-2 Inv-loop μ-loop
 returns-2 c = search needs
+
+loop-less : tie.Need-loop-less Inv-loop μ-loop
+loop-less c =
+    let at-tell-held : tie.After-tell-held Inv-loop μ-loop = search in
+    let at-if1 : tie.Else1 Inv-loop μ-loop = search in
+    let at-ready : tie.After-ready Inv-loop μ-loop = search in
+    let at-loop-test : tie.In-loop Inv-loop μ-loop = search in
+    let at-loop : tie.At-loop Inv-loop μ-loop = search in
+    let start : tie.Start Inv-loop μ-loop = search in
+    let l = at-loop .loop in
+    let held = at-ready .ready .result in
+    let some = ap (holdsNext (ltb held messageSize)) (sym (at-ready .ready .ensures .0 .1)) ∙ holds-some held (omega (arith, at-if1 .if1 .left)) in
+    let more = told-some (l .series) (l .number) (take held (at-ready .ready .last .0)) (ltb held messageSize) (length (l .out))
+    (at-tell-held .tell-held .ensures .0) some (omega (arith, l .inv .3, start .pre .3)) (at-loop-test .loop-test .taken) in
+    omega (arith, more .0, at-loop-test .loop-test .taken)
+
+loop-again : tie.Need-loop-again Inv-loop μ-loop
+loop-again c = search needs
+
+same-length-5 : tie.Need-same-length-5 Inv-loop μ-loop
+same-length-5 c = search needs
+
+same-length-6 : tie.Need-same-length-6 Inv-loop μ-loop
+same-length-6 c = search needs
+
+returns-3 : tie.Need-returns-3 Inv-loop μ-loop
+returns-3 c = search needs
 
 pub run-spec : {M : Type 1} → statement M
 run-spec =
@@ -79,16 +91,15 @@ run-spec =
     same-length
     same-length-2
     returns
-    slice-reshare-prefix-handle-at
-    slice-aggregate-handle-at
-    slice-aggregate-handle-at-2
-    handle-at-requires
-    slice-aggregate-answer-lines
-    answer-lines-requires
-    place-behind-requires
-    add-number
-    loop-less
-    loop-again
+    slice-reshare-prefix-tell-held
+    slice-aggregate-tell-held
+    tell-held-requires
+    is-out-requires
     same-length-3
     same-length-4
-    returns-2)
+    returns-2
+    loop-less
+    loop-again
+    same-length-5
+    same-length-6
+    returns-3)

@@ -1,12 +1,13 @@
 use lib.ListN.{length}
 use mathlib.Core.Path.{_≡_}
 use Prim.Native.Nat.{_-_, _≤_}
+use Rattle.lines.specs.Buffer.{longestAnswer}
 use borrow.Author.Needs.{needs}
 use Rattle.test_handed_in.proofs.main.Statement.{statement}
 use Rattle.test_handed_in.proofs.main.Tie as tie
 
 abbrev Inv-loop : tie.InvT-loop
-Inv-loop bytes₀ out₀ number₀ bytes out number = (number ≤ 1001) × (length bytes ≡ 1614) × (length out ≡ 273600)
+Inv-loop bytes₀ out₀ number₀ bytes out number = (number ≤ 1001) × (length bytes ≡ 1614) × (length out ≡ longestAnswer)
 
 abbrev μ-loop : tie.MeasureT-loop
 μ-loop bytes₀ out₀ number₀ bytes out number = 1001 - number

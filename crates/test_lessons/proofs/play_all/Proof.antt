@@ -6,11 +6,10 @@ use Rattle.test_lessons.proofs.play_all.Statement.{statement}
 use Rattle.test_lessons.proofs.play_all.Tie as tie
 
 abbrev Inv-loop : tie.InvT-loop
-Inv-loop bundle room₀ out₀ at₀ room out at =
-    (at ≤ length bundle) × (length room ≡ length room₀) × (length out ≡ length out₀)
+Inv-loop bundle out₀ at₀ out at = (at ≤ length bundle) × (length out ≡ length out₀)
 
 abbrev μ-loop : tie.MeasureT-loop
-μ-loop bundle room₀ out₀ at₀ room out at = length bundle - at
+μ-loop bundle out₀ at₀ out at = length bundle - at
 
 loop-holds : tie.Need-loop-holds Inv-loop μ-loop
 loop-holds c = search needs
@@ -60,9 +59,6 @@ loop-again c = search needs
 same-length : tie.Need-same-length Inv-loop μ-loop
 same-length c = search needs
 
-same-length-2 : tie.Need-same-length-2 Inv-loop μ-loop
-same-length-2 c = search needs
-
 returns : tie.Need-returns Inv-loop μ-loop
 returns c = search needs
 
@@ -88,5 +84,4 @@ play-all-spec =
     loop-less
     loop-again
     same-length
-    same-length-2
     returns)

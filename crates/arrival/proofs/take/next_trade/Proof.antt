@@ -26,9 +26,6 @@ enum-known-best c = search needs
 enum-told : tie.Need-enum-told
 enum-told c = search needs
 
-no-trade-requires : tie.Need-no-trade-requires
-no-trade-requires c κs = search needs
-
 returns : tie.Need-returns
 returns c =
     let at-enum-told : tie.After-enum-told = search in
@@ -39,10 +36,10 @@ returns c =
     let e = start .args .e in
     let t = takingOf (start .args .left) (start .args .t1) in
     let b = bestContra (e .sell) (shownOnly e) l in
-    no-contra-left (start .args .cap) e t (c .no-trade .result)
+    no-contra-left (start .args .cap) e t
     (rank-none b
     (sym (at-enum-told .enum-told .given .1) ∙ at-best-contra .best-contra .ensures
-    ∙ ap (λ (h : Bool). rankOf (bestContra (e .sell) h l)) (at-is-shown-only .is-shown-only .ensures))) (c .no-trade .ensures .0) (c .no-trade .ensures .1)
+    ∙ ap (λ (h : Bool). rankOf (bestContra (e .sell) h l)) (at-is-shown-only .is-shown-only .ensures)))
 
 mul-entry : tie.Need-mul-entry
 mul-entry c =
@@ -79,9 +76,6 @@ element-copy-out-entry c =
 is-reaching-requires : tie.Need-is-reaching-requires
 is-reaching-requires c κs = search needs
 
-no-trade-requires-2 : tie.Need-no-trade-requires-2
-no-trade-requires-2 c κs = search needs
-
 returns-2 : tie.Need-returns-2
 returns-2 c =
     let at-if1 : tie.Then1 = search in
@@ -100,8 +94,7 @@ returns-2 c =
     ∙ ap (λ (h : Bool). rankOf (bestContra (e .sell) h l)) (at-is-shown-only .is-shown-only .ensures)) in
     let i = at-best .best .given .0 .0 in
     let at = entry-at (start .args .t1) i zeroEntry (omega (arith, r .inside, length-entries (start .args .t1) (start .pre))) in
-    out-of-bound (start .args .cap) e t i r (c .no-trade2 .result) (rw (at, ← at-is-reaching .is-reaching .ensures) (at-if1 .if1 .taken))
-    (c .no-trade2 .ensures .0) (c .no-trade2 .ensures .1)
+    out-of-bound (start .args .cap) e t i r (rw (at, ← at-is-reaching .is-reaching .ensures) (at-if1 .if1 .taken))
 
 lesser-requires : tie.Need-lesser-requires
 lesser-requires c κs = search needs
@@ -135,12 +128,10 @@ next-trade-spec =
     best-contra-requires
     enum-known-best
     enum-told
-    no-trade-requires
     returns
     mul-entry
     element-copy-out-entry
     is-reaching-requires
-    no-trade-requires-2
     returns-2
     lesser-requires
     returns-3)

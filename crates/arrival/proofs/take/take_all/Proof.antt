@@ -1,12 +1,11 @@
 use Rattle.packing.specs.Room.{written}
 use Rattle.packing.specs.declared.report.Report.{Report}
 use mathlib.Core.List.{[], _∷_}
-use mathlib.Core.Path.{ap, _∙_}
+use mathlib.Core.Path.{sym, ap, _∙_}
 use native.Mathlib.Omega.{arith}
-use borrow.Author.Tests.{not-true, not-false}
 use Rattle.arrival.specs.Asks.{takingOf}
 use Rattle.arrival.specs.Take.{chances}
-use Rattle.arrival.proofs.TradeLaws.{TakingOn, take-start, take-done, take-room, take-place, take-less, take-on}
+use Rattle.arrival.proofs.TradeLaws.{TakingOn, take-start, take-done, take-room, take-place, take-most, take-less, take-on}
 use borrow.Author.Needs.{needs}
 use Rattle.arrival.proofs.take.take_all.Statement.{statement}
 use Rattle.arrival.proofs.take.take_all.Tie as tie
@@ -25,6 +24,12 @@ loop-holds c =
 next-trade-requires : tie.Need-next-trade-requires Inv-loop μ-loop
 next-trade-requires c κs = search needs
 
+enum-known-found : tie.Need-enum-known-found Inv-loop μ-loop
+enum-known-found c = search needs
+
+enum-told : tie.Need-enum-told Inv-loop μ-loop
+enum-told c = search needs
+
 same-length : tie.Need-same-length Inv-loop μ-loop
 same-length c = let at-loop : tie.At-loop Inv-loop μ-loop = search in omega (arith, at-loop .loop .inv .going .kept)
 
@@ -32,10 +37,7 @@ returns : tie.Need-returns Inv-loop μ-loop
 returns c =
     let at-next-trade : tie.After-next-trade Inv-loop μ-loop = search in
     let at-loop : tie.At-loop Inv-loop μ-loop = search in
-    let v = at-loop .loop .inv in
-    let x = at-next-trade .next-trade .result in
-    let w = at-next-trade .next-trade .ensures in
-    take-done v x w (not-true (x .going) (c .if1 .taken))
+    take-done (at-loop .loop .inv) (sym (c .enum-told .given .1) ∙ at-next-trade .next-trade .ensures)
 
 tell-traded-requires : tie.Need-tell-traded-requires Inv-loop μ-loop
 tell-traded-requires c κs = search needs
@@ -43,56 +45,57 @@ tell-traded-requires c κs = search needs
 put-requires : tie.Need-put-requires Inv-loop μ-loop
 put-requires c κs =
     let at-tell-traded : tie.After-tell-traded Inv-loop μ-loop = search in
-    let at-if1 : tie.Else1 Inv-loop μ-loop = search in
+    let at-found : tie.After-found Inv-loop μ-loop = search in
     let at-next-trade : tie.After-next-trade Inv-loop μ-loop = search in
     let at-loop : tie.At-loop Inv-loop μ-loop = search in
     let v = at-loop .loop .inv in
-    let x = at-next-trade .next-trade .result in
-    let w = at-next-trade .next-trade .ensures in
-    rw (at-tell-traded .tell-traded .ensures) (take-room v x w (not-false (x .going) (at-if1 .if1 .left)))
+    let x = at-found .found .given .0 .0 in
+    let h = sym (at-found .found .given .1) ∙ at-next-trade .next-trade .ensures in
+    rw (at-tell-traded .tell-traded .ensures) (take-room v x h)
 
 taken-requires : tie.Need-taken-requires Inv-loop μ-loop
 taken-requires c κs =
-    let at-if1 : tie.Else1 Inv-loop μ-loop = search in
+    let at-found : tie.After-found Inv-loop μ-loop = search in
     let at-next-trade : tie.After-next-trade Inv-loop μ-loop = search in
     let at-loop : tie.At-loop Inv-loop μ-loop = search in
     let v = at-loop .loop .inv in
-    let x = at-next-trade .next-trade .result in
-    let w = at-next-trade .next-trade .ensures in
-    take-place v x w (not-false (x .going) (at-if1 .if1 .left))
+    let x = at-found .found .given .0 .0 in
+    let h = sym (at-found .found .given .1) ∙ at-next-trade .next-trade .ensures in
+    take-place v x h
 
 sub-left : tie.Need-sub-left Inv-loop μ-loop
 sub-left c =
+    let at-found : tie.After-found Inv-loop μ-loop = search in
     let at-next-trade : tie.After-next-trade Inv-loop μ-loop = search in
     let at-loop : tie.At-loop Inv-loop μ-loop = search in
     let v = at-loop .loop .inv in
-    let x = at-next-trade .next-trade .result in
-    let w = at-next-trade .next-trade .ensures in
-    w .most
+    let x = at-found .found .given .0 .0 in
+    let h = sym (at-found .found .given .1) ∙ at-next-trade .next-trade .ensures in
+    take-most v x h
 
 loop-less : tie.Need-loop-less Inv-loop μ-loop
 loop-less c =
     let at-taken : tie.After-taken Inv-loop μ-loop = search in
-    let at-if1 : tie.Else1 Inv-loop μ-loop = search in
+    let at-found : tie.After-found Inv-loop μ-loop = search in
     let at-next-trade : tie.After-next-trade Inv-loop μ-loop = search in
     let at-loop : tie.At-loop Inv-loop μ-loop = search in
     let v = at-loop .loop .inv in
-    let x = at-next-trade .next-trade .result in
-    let w = at-next-trade .next-trade .ensures in
-    take-less v x w (not-false (x .going) (at-if1 .if1 .left)) (at-taken .taken .result) (at-taken .taken .ensures)
+    let x = at-found .found .given .0 .0 in
+    let h = sym (at-found .found .given .1) ∙ at-next-trade .next-trade .ensures in
+    take-less v x h (at-taken .taken .result) (at-taken .taken .ensures)
 
 loop-again : tie.Need-loop-again Inv-loop μ-loop
 loop-again c =
     let at-taken : tie.After-taken Inv-loop μ-loop = search in
     let at-put : tie.After-put Inv-loop μ-loop = search in
     let at-tell-traded : tie.After-tell-traded Inv-loop μ-loop = search in
-    let at-if1 : tie.Else1 Inv-loop μ-loop = search in
+    let at-found : tie.After-found Inv-loop μ-loop = search in
     let at-next-trade : tie.After-next-trade Inv-loop μ-loop = search in
     let at-loop : tie.At-loop Inv-loop μ-loop = search in
     let v = at-loop .loop .inv in
-    let x = at-next-trade .next-trade .result in
-    let w = at-next-trade .next-trade .ensures in
-    take-on v x w (not-false (x .going) (at-if1 .if1 .left)) (at-taken .taken .result) (at-taken .taken .ensures) (at-put .put .last .0)
+    let x = at-found .found .given .0 .0 in
+    let h = sym (at-found .found .given .1) ∙ at-next-trade .next-trade .ensures in
+    take-on v x h (at-taken .taken .result) (at-taken .taken .ensures) (at-put .put .last .0)
     (at-put .put .last .1 .0)
     (at-put .put .ensures .bytes ∙ ap (λ (r : Report). written (at-loop .loop .room) (at-loop .loop .n) (r ∷ [])) (at-tell-traded .tell-traded .ensures))
     (at-put .put .ensures .count)
@@ -105,6 +108,8 @@ take-all-spec =
     μ-loop
     loop-holds
     next-trade-requires
+    enum-known-found
+    enum-told
     same-length
     returns
     tell-traded-requires

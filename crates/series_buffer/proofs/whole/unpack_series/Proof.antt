@@ -1,4 +1,4 @@
-use Rattle.series_buffer.proofs.StateLaws.{other-length, no-header, no-entries, all-there, rest-size}
+use Rattle.series_buffer.proofs.StateLaws.{other-length, header-said, no-header, entries-said, no-entries, all-there, rest-size}
 use Rattle.series_buffer.specs.State.{unpacked}
 use Rattle.series.specs.declared.Series.{Series}
 use borrow.Author.Tests.{not-true, not-false}
@@ -34,7 +34,7 @@ returns-2 c =
     ∙ ap unpacked
     (sym
     (no-header (now (start .args .bytes)) (at-if1 .if1 .left) (at-unpack .unpack .result .ok) (at-unpack .unpack .result .header)
-    (at-unpack .unpack .ensures) (not-true _ (at-if2 .if2 .taken))))
+    (header-said _ _ (at-unpack .unpack .ensures)) (not-true _ (at-if2 .if2 .taken))))
 
 sub-unpack-all : tie.Need-sub-unpack-all
 sub-unpack-all c = search needs
@@ -66,8 +66,8 @@ returns-3 c =
     ∙ ap unpacked
     (sym
     (no-entries (now (start .args .bytes)) (at-if1 .if1 .left) (at-unpack .unpack .result .ok) (at-unpack .unpack .result .header)
-    (at-unpack .unpack .ensures) (not-false _ (at-if2 .if2 .left)) _ refl (at-unpack-all .unpack-all .result .ok)
-    (at-unpack-all .unpack-all .result .entries) (at-unpack-all .unpack-all .ensures) (not-true _ (at-if3 .if3 .taken))))
+    (header-said _ _ (at-unpack .unpack .ensures)) (not-false _ (at-if2 .if2 .left)) _ refl (at-unpack-all .unpack-all .result .ok)
+    (at-unpack-all .unpack-all .result .entries) (entries-said _ _ (at-unpack-all .unpack-all .ensures)) (not-true _ (at-if3 .if3 .taken))))
 
 series-of-requires : tie.Need-series-of-requires
 series-of-requires c κs = search needs
@@ -84,8 +84,8 @@ returns-4 c =
     ∙ ap unpacked
     (sym
     (all-there (now (start .args .bytes)) (at-if1 .if1 .left) (at-unpack .unpack .result .ok) (at-unpack .unpack .result .header)
-    (at-unpack .unpack .ensures) (not-false _ (at-if2 .if2 .left)) _ refl (at-unpack-all .unpack-all .result .ok)
-    (at-unpack-all .unpack-all .result .entries) (at-unpack-all .unpack-all .ensures) (not-false _ (at-if3 .if3 .left))))
+    (header-said _ _ (at-unpack .unpack .ensures)) (not-false _ (at-if2 .if2 .left)) _ refl (at-unpack-all .unpack-all .result .ok)
+    (at-unpack-all .unpack-all .result .entries) (entries-said _ _ (at-unpack-all .unpack-all .ensures)) (not-false _ (at-if3 .if3 .left))))
 
 pub unpack-series-spec : {M : Type 1} → statement M
 unpack-series-spec =

@@ -1,0 +1,5 @@
+pub mod TextLaws
+pub mod HeldLaws
+pub mod SetupLaws
+pub mod Progress
+pub mod Rounds

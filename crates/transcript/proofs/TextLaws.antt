@@ -1,0 +1,101 @@
+-- What is printed for one message: the same from every room, no longer than the longest answer, and put where there is room for that.
+-- Assumes nothing.
+use Prim.Native.Nat.{ℕ, zero, suc, _+_, _≤_}
+use mathlib.Core.Bool.{Bool, true, false, cond}
+use mathlib.Core.List.{List}
+use mathlib.Core.Path.{_≡_, refl, sym, ap, _∙_}
+use native.Mathlib.Omega.{arith}
+use borrow.Author.Tests.{le-leb}
+use lib.Dec.{eqb}
+use lib.ListN.{length, replicate, length-replicate}
+use Rattle.packing.specs.Codec.{nothing}
+use Rattle.packing.specs.Message.{messageSize}
+use Rattle.packing.specs.Room.{readBack, roomSize, mostReports}
+use Rattle.series.specs.declared.Series.{Series}
+use Rattle.series.specs.Series.{soundSeries}
+use Rattle.handler.specs.declared.Answer.{Answer}
+use Rattle.handler.specs.Handle.{Handled, inRoom, refused, handled}
+use Rattle.handler.proofs.Refusals.{refusals-keep}
+use Rattle.handler.proofs.Accepted.{accepted-sound}
+use Rattle.handler.proofs.Demands.{handled-length}
+use Rattle.handler.proofs.AnyRoom.{count-few, same-answer, same-reports}
+use Rattle.lines.specs.Lines.{refusalLine, reportLines, linesOf}
+use Rattle.lines.specs.Buffer.{TextPut, longestAnswer, roomy, answerPrinted}
+use Rattle.lines.proofs.BufferLaws.{printed-put}
+use Rattle.lines.proofs.AnswerLaws.{accepted-text, refused-text}
+use Rattle.transcript.specs.Transcript.{answered, textOf}
+
+zeros-large : roomSize ≤ length (replicate {A = ℕ} roomSize 0)
+zeros-large = omega (arith, length-replicate {A = ℕ} roomSize 0)
+
+-- a message's text, by whether it was refused
+text-accepted : (number : ℕ) (h : Handled) → h .answer .refusal ≡ 0 → textOf number h ≡ reportLines number (readBack (h .answer .count) (h .room))
+text-accepted number h e = accepted-text number (h .answer .refusal) (h .answer .count) (h .room) e .0
+
+text-refused : (number : ℕ) (h : Handled) → (h .answer .refusal ≡ 0 → ⊥) → textOf number h ≡ refusalLine number (h .answer .refusal)
+text-refused number h e = refused-text number (h .answer .refusal) (h .answer .count) (h .room) e .0
+
+module _ (s : Series) (message room : List ℕ) (large : roomSize ≤ length room) where
+  -- THE ANSWER IS THAT OF A ROOM OF ZEROS
+  pub any-answer : handled s message room .answer ≡ answered s message .answer
+  unfolding answered
+  any-answer = same-answer s message room (replicate roomSize 0) large zeros-large
+
+  same-refusal : handled s message room .answer .refusal ≡ answered s message .answer .refusal
+  same-refusal = ap (λ (a : Answer). a .refusal) any-answer
+
+  -- THEOREM. WHAT IS PRINTED FOR A MESSAGE DOES NOT DEPEND ON THE ROOM that its reports are written to, where that has at least 31,920 bytes: what it held
+  -- before, such as the reports of the message before, is not printed
+  pub any-room : (number : ℕ) → textOf number (handled s message room) ≡ textOf number (answered s message)
+  unfolding answered
+  any-room number = go (handled s message room .answer .refusal) refl
+    where
+      go : (n : ℕ) → handled s message room .answer .refusal ≡ n → textOf number (handled s message room) ≡ textOf number (answered s message)
+      go zero h =
+          text-accepted number (handled s message room) h
+          ∙ ap (reportLines number) (same-reports s message room (replicate roomSize 0) large zeros-large h)
+          ∙ sym (text-accepted number (answered s message) (sym same-refusal ∙ h))
+      go (suc n) h =
+          text-refused number (handled s message room) (λ z. omega (arith, h, z))
+          ∙ ap (refusalLine number) same-refusal
+          ∙ sym (text-refused number (answered s message) (λ z. omega (arith, h, z, same-refusal)))
+
+-- no message has more lines than the longest answer
+lines-few : (s : Series) (message room : List ℕ)
+    → linesOf (handled s message room .answer .refusal) (handled s message room .answer .count) ≤ mostReports
+lines-few s message room = by (eqb (handled s message room .answer .refusal) 0)
+  where
+    by : (b : Bool) → cond b (handled s message room .answer .count) 1 ≤ mostReports
+    by true = count-few s message room
+    by false = omega arith
+
+-- so its text is put wherever there is room for the longest
+pub text-put : (s : Series) (message room out : List ℕ) (at number : ℕ) {r : Answer} {room′ after : List ℕ} {end : ℕ}
+    → inRoom r room′ ≡ handled s message room → roomSize ≤ length room → at + longestAnswer ≤ length out
+    → end ≡ answerPrinted out at number (r .refusal) (r .count) room′ .0 → after ≡ answerPrinted out at number (r .refusal) (r .count) room′ .1
+    → TextPut out at (textOf number (answered s message)) after end
+unfolding roomy
+text-put s message room out at number {r} {room′} {after} {end} h large space e a =
+    rw (sym (any-room s message room large number), sym h)
+    (printed-put (linesOf (r .refusal) (r .count)) (le-leb _ (length out) (omega (arith, few, space))) e a)
+  where
+    few : linesOf (r .refusal) (r .count) ≤ mostReports
+    few = rw (sym h) at (lines-few s message room)
+
+-- "a short last one included": WHAT IS NO MESSAGE'S LENGTH IS REFUSED as 1, in a sound series
+pub short-refused : (number : ℕ) (s : Series) (message : List ℕ) → soundSeries s ≡ true → (length message ≡ messageSize → ⊥)
+    → textOf number (answered s message) ≡ refusalLine number nothing
+unfolding answered
+short-refused number s message sound h =
+    let e = handled-length s message (replicate roomSize 0) zeros-large sound h in
+    ap (textOf number) e ∙ text-refused number (refused nothing s (replicate roomSize 0)) (λ z. omega (arith, z))
+
+-- and the series stays sound from message to message
+pub answered-sound : (s : Series) (message : List ℕ) → soundSeries s ≡ true → soundSeries (answered s message .answer .series) ≡ true
+unfolding answered
+answered-sound s message sound = go (handled s message (replicate roomSize 0) .answer .refusal) refl
+  where
+    go : (n : ℕ) → handled s message (replicate roomSize 0) .answer .refusal ≡ n
+        → soundSeries (handled s message (replicate roomSize 0) .answer .series) ≡ true
+    go zero h = accepted-sound s message (replicate roomSize 0) h
+    go (suc n) h = ap soundSeries (refusals-keep s message (replicate roomSize 0) (λ z. omega (arith, h, z)) .series) ∙ sound

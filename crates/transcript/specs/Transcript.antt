@@ -1,0 +1,58 @@
+-- WHAT THE SESSION PROGRAM PRINTS for a whole input: document 01, "Class examples".
+-- Assumes nothing.
+use Prim.Native.Nat.{ℕ, zero, suc, _+_}
+use mathlib.Core.List.{List, [], _∷_, _++_}
+use mathlib.Core.Option.{Option, none, some}
+use lib.ListN.{length, take, drop, replicate}
+use Rattle.packing.specs.declared.setup.Setup.{Setup}
+use Rattle.packing.specs.Codec.{nothing, unpackOf}
+use Rattle.packing.specs.Setup.{setups, setupSize}
+use Rattle.packing.specs.Message.{messageSize}
+use Rattle.packing.specs.Room.{roomSize}
+use Rattle.series.specs.declared.Series.{Series}
+use Rattle.series.specs.Series.{newSeries}
+use Rattle.handler.specs.Handle.{Handled, handled}
+use Rattle.lines.specs.Lines.{refusalLine, answerText}
+
+-- ---- one message ----
+
+-- what is answered to a message, with a room of zeros for its reports. (What the room held before is not seen in what is printed: `any-room`)
+unfoldable pub answered : Series → List ℕ → Handled
+answered s message = handled s message (replicate roomSize 0)
+
+-- what is printed for message `number`, by its answer: a line for each report, or the line of its refusal
+abbrev pub textOf : ℕ → Handled → List ℕ
+textOf number h = answerText number (h .answer .refusal) (h .answer .count) (h .room)
+
+-- ---- the messages of an input ----
+
+-- "A message is 11 bytes", "a short last one included": as many bytes as a message has, or the fewer that are left, and then what stands behind them.
+-- (`turns` counts down, so that it ends)
+unfoldable pub messagesIn : ℕ → List ℕ → List (List ℕ)
+messagesIn zero bytes = []
+messagesIn (suc turns) [] = []
+messagesIn (suc turns) (b ∷ bytes) = take messageSize (b ∷ bytes) ∷ messagesIn turns (drop messageSize (b ∷ bytes))
+
+-- there are no more messages than bytes
+abbrev pub messagesOf : List ℕ → List (List ℕ)
+messagesOf bytes = messagesIn (length bytes) bytes
+
+-- ---- the whole ----
+
+-- the messages' lines, in order, each once; the series that one message leaves is the one that the next finds
+unfoldable pub linesFor : ℕ → Series → List (List ℕ) → List ℕ
+linesFor number s [] = []
+linesFor number s (message ∷ rest) =
+    textOf number (answered s message) ++ linesFor (number + 1) (answered s message .answer .series) rest
+
+abbrev pub linesFrom : ℕ → Series → List ℕ → List ℕ
+linesFrom number s bytes = linesFor number s (messagesOf bytes)
+
+-- "a refused setup prints `0 refused 1` and ends"; the messages behind any other are numbered from 1
+abbrev pub printedFor : Option Setup → List ℕ → List ℕ
+printedFor none bytes = refusalLine 0 nothing
+printedFor (some setup) bytes = linesFrom 1 (newSeries setup) bytes
+
+-- THE WHOLE: "The session program reads setup, then messages, from standard input."
+unfoldable pub transcript : List ℕ → List ℕ
+transcript input = printedFor (unpackOf setups (take setupSize input)) (drop setupSize input)
