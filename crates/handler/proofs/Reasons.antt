@@ -1,6 +1,5 @@
--- THE REASON FROM 20 TO 26 IN A REPORT THAT IS READ BACK FROM THE ROOM IS THE TRUE ONE, for every accepted message that brings a quote or an order: what it says holds, and
--- what no reason before it in document 01's order says does.
--- 27, 29 and 30 compare no prices; where they stand is listed in Taught.
+-- THE REASON FROM 20 TO 26 IN A REPORT THAT IS READ BACK FROM THE ROOM IS THE TRUE ONE, for every accepted message that brings a quote or an order: what it
+-- says holds, and what no reason before it in document 01's order says does. 27, 29 and 30 compare no prices; where they stand is listed in Taught.
 -- Assumes nothing.
 use Prim.Native.Nat.{ℕ}
 use mathlib.Core.Path.{_≡_, sym, subst}

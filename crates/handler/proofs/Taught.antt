@@ -68,8 +68,8 @@ module _ (s : Series) (message room : List ℕ) (e : Event) (read : unpackOf mes
       of-accepted s message room e read zero (λ (h : Handled). EachReport (TradesWithin (marketOf (h .answer .series .terms))) h)
       (λ ok space. each-told s (askOf e) ok room space (TradesWithin (marketOf (termsAfter (s .terms) (askOf e)))) (class.trades-within-away s (askOf e) ok))
 
-  -- AN ARRIVING MMALO IS PRICED OFF DARK INTEREST TOO: where a report in the room says that it rests, both its prices are short of every entry against it, and just its
-  -- aims before the best price of them all
+  -- AN ARRIVING MMALO IS PRICED OFF DARK INTEREST TOO: where a report in the room says that it rests, both its prices are short of every entry against it, and
+  -- just its aims before the best price of them all
   pub priced-off-dark : minds (askOf e .kind) ≡ true
       → EachReport (arriving.PricedOff (s .terms) (comerOf s (askOf e)) (entriesOf (s .book))) (handled s message room)
   priced-off-dark mi =

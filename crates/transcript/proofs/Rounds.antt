@@ -1,4 +1,5 @@
--- AN INPUT TOLD IN ROUNDS: however it comes and however much is told at a time, what is printed is the whole's text. (That each round tells something: Progress.)
+-- AN INPUT TOLD IN ROUNDS: however it comes and however much is told at a time, what is printed is the whole's text. Progress says that each round tells
+-- something.
 -- Assumes nothing.
 use Prim.Native.Nat.{ℕ, zero, suc, _+_, _-_, _≤_, _<_, min}
 use mathlib.Core.Bool.{Bool, true, false, cond}
