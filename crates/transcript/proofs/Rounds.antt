@@ -21,8 +21,8 @@ use Rattle.series.specs.declared.Series.{Series}
 use Rattle.series.specs.Series.{newSeries}
 use Rattle.lines.specs.Lines.{refusalLine}
 use Rattle.lines.specs.Buffer.{longestAnswer}
-use Rattle.transcript.specs.Transcript.{answered, textOf, messagesIn, messagesOf, linesFor, linesFrom, printedFor, transcript}
-use Rattle.transcript.specs.Held.{setupText, setupIn, mostMessages, holdsNext, Telling, goesOn, next, tellOn, heldTold}
+use Rattle.transcript.specs.Transcript.{answered, textOf, messagesIn, messagesOf, linesFor, linesFrom, printedFor, transcript, setupIn, setupText}
+use Rattle.transcript.specs.Held.{mostMessages, holdsNext, Telling, goesOn, next, tellOn, heldTold}
 use Rattle.transcript.proofs.Progress.{holds-last, tells-some, tells-within}
 
 -- ---- the messages of bytes ----

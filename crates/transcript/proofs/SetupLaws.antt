@@ -17,7 +17,8 @@ use Rattle.series.specs.declared.Made.{Made}
 use Rattle.series.specs.Series.{opened}
 use Rattle.lines.specs.Lines.{answerText}
 use Rattle.lines.specs.Buffer.{roomy, printed, answerPrinted}
-use Rattle.transcript.specs.Held.{setupIn, setupText, setupPrinted, begun}
+use Rattle.transcript.specs.Transcript.{setupIn, setupText}
+use Rattle.transcript.specs.Held.{setupPrinted, begun}
 
 -- nothing is printed where there is no text, with room or without
 printed-none : (out : List ℕ) (lines : ℕ) → _≡_ {A = ℕ × List ℕ} (printed out 0 lines []) (0, out)

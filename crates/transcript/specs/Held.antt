@@ -3,31 +3,19 @@
 use Prim.Native.Nat.{ℕ, zero, suc, _+_, _-_, _≤_, min}
 use mathlib.Core.Bool.{Bool, cond, _&&_}
 use mathlib.Core.List.{List, [], _++_}
-use mathlib.Core.Option.{Option, none, some}
 use mathlib.Core.Path.{_≡_}
 use lib.Dec.{leb, ltb}
-use lib.ListN.{length, take}
-use Rattle.packing.specs.declared.setup.Setup.{Setup}
-use Rattle.packing.specs.Codec.{nothing, unpackOf}
-use Rattle.packing.specs.Setup.{setups, setupSize}
+use lib.ListN.{length}
+use Rattle.packing.specs.Setup.{setupSize}
 use Rattle.packing.specs.Message.{messageSize, messageAt}
 use Rattle.series.specs.declared.Series.{Series}
 use Rattle.series.specs.Series.{opened}
-use Rattle.lines.specs.Lines.{refusalLine}
 use Rattle.lines.specs.Buffer.{TextPut, longestAnswer, printed}
 use Rattle.transcript.specs.declared.Begun.{Begun}
 use Rattle.transcript.specs.declared.Told.{Told}
-use Rattle.transcript.specs.Transcript.{answered, textOf}
+use Rattle.transcript.specs.Transcript.{answered, textOf, setupIn, setupText}
 
 -- ---- setup ----
-
--- the setup that stands in front of what is held, and what is printed for it
-abbrev pub setupIn : List ℕ → Option Setup
-setupIn held = unpackOf setups (take setupSize held)
-
-abbrev pub setupText : Option Setup → List ℕ
-setupText none = refusalLine 0 nothing
-setupText (some s) = []
 
 -- how much is printed, and the buffer afterwards: one line at the most
 abbrev pub setupPrinted : List ℕ → List ℕ → ℕ × List ℕ

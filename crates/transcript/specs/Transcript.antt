@@ -48,11 +48,19 @@ linesFor number s (message ∷ rest) =
 abbrev pub linesFrom : ℕ → Series → List ℕ → List ℕ
 linesFrom number s bytes = linesFor number s (messagesOf bytes)
 
--- "a refused setup prints `0 refused 1` and ends"; the messages behind any other are numbered from 1
+-- the setup that stands in front of an input, and what is printed for it: "a refused setup prints `0 refused 1`"
+abbrev pub setupIn : List ℕ → Option Setup
+setupIn input = unpackOf setups (take setupSize input)
+
+abbrev pub setupText : Option Setup → List ℕ
+setupText none = refusalLine 0 nothing
+setupText (some s) = []
+
+-- "and ends"; the messages behind any other are numbered from 1
 abbrev pub printedFor : Option Setup → List ℕ → List ℕ
-printedFor none bytes = refusalLine 0 nothing
+printedFor none bytes = setupText none
 printedFor (some setup) bytes = linesFrom 1 (newSeries setup) bytes
 
 -- THE WHOLE: "The session program reads setup, then messages, from standard input."
 unfoldable pub transcript : List ℕ → List ℕ
-transcript input = printedFor (unpackOf setups (take setupSize input)) (drop setupSize input)
+transcript input = printedFor (setupIn input) (drop setupSize input)
