@@ -8,7 +8,7 @@ use native.Mathlib.Omega.{arith}
 use lib.Dec.{leb}
 use lib.ListN.{length, drop, take, length-drop, drop-of-length-le}
 use lib.Seq.{take-all}
-use borrow.Author.Tests.{le-leb, lt-leb, leb-true, leb-false}
+use borrow.Author.Tests.{le-leb, lt-leb, leb-true}
 use Rattle.lists.proofs.Bools.{and-left, and-right}
 use Rattle.packing.specs.declared.setup.Setup.{Setup}
 use Rattle.packing.specs.Room.{roomSize}
@@ -25,13 +25,6 @@ goes-not long at size used h = ap (λ (b : Bool). b && leb (used + roomSize) siz
 
 pub goes-if : (long at size used : ℕ) → at + messageSize ≤ long → goesOn long at size used ≡ leb (used + roomSize) size
 goes-if long at size used h = ap (λ (b : Bool). b && leb (used + roomSize) size) (le-leb (at + messageSize) long h)
-
-pub room-left : (size used : ℕ) → used ≤ size → leb roomSize (size - used) ≡ leb (used + roomSize) size
-room-left size used h = by (leb (used + roomSize) size) refl
-  where
-    by : (b : Bool) → leb (used + roomSize) size ≡ b → leb roomSize (size - used) ≡ b
-    by true e = le-leb roomSize (size - used) (omega (arith, leb-true (used + roomSize) size e))
-    by false e = lt-leb roomSize (size - used) (omega (arith, leb-false (used + roomSize) size e))
 
 pub goes-both : (long at size used : ℕ) → goesOn long at size used ≡ true → (at + messageSize ≤ long) × (used + roomSize ≤ size)
 goes-both long at size used h = (

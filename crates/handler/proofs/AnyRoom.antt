@@ -1,14 +1,14 @@
 -- THE LENT ROOM: how many reports it is asked to hold, and that what it held before is not seen in the answer, nor in the reports that are read back from it.
 -- Assumes nothing.
-use Prim.Native.Nat.{ℕ, zero, suc, _≤_}
+use Prim.Native.Nat.{ℕ, zero, suc, _+_, _-_, _≤_}
 use mathlib.Core.Path.{_≡_, refl, sym, ap, _∙_}
 use mathlib.Core.Bool.{Bool, true, false, cond, not}
 use mathlib.Core.List.{List}
 use mathlib.Core.Option.{Option, none, some}
 use native.Mathlib.Omega.{arith}
-use lib.Dec.{eqb}
+use lib.Dec.{eqb, leb}
 use lib.ListN.{length}
-use borrow.Author.Tests.{le-ltb}
+use borrow.Author.Tests.{le-ltb, le-leb, lt-leb, leb-true, leb-false}
 use Rattle.packing.specs.declared.message.Event.{Event}
 use Rattle.packing.specs.Codec.{unpackOf}
 use Rattle.packing.specs.Message.{messages}
@@ -52,3 +52,11 @@ module _ (s : Series) (message one other : List ℕ) (large : roomSize ≤ lengt
       → readBack (handled s message one .answer .count) (handled s message one .room)
       ≡ readBack (handled s message other .answer .count) (handled s message other .room)
   same-reports h = reports-told s message one h ∙ sym (reports-told s message other (sym (ap (λ (a : Answer). a .refusal) same-answer) ∙ h))
+
+-- whether so many bytes are left behind `used`, as code asks it and as definitions do
+pub room-left : (more size used : ℕ) → used ≤ size → leb more (size - used) ≡ leb (used + more) size
+room-left more size used h = by (leb (used + more) size) refl
+  where
+    by : (b : Bool) → leb (used + more) size ≡ b → leb more (size - used) ≡ b
+    by true e = le-leb more (size - used) (omega (arith, leb-true (used + more) size e))
+    by false e = lt-leb more (size - used) (omega (arith, leb-false (used + more) size e))

@@ -5,7 +5,7 @@ use mathlib.Core.Bool.{Bool, true, false, _&&_}
 use mathlib.Core.List.{List, []}
 use mathlib.Core.Path.{_≡_, refl, sym, ap, _∙_}
 use native.Mathlib.Omega.{arith}
-use borrow.Author.Tests.{le-leb, lt-leb, leb-true, leb-false, ltb-true, lt-ltb}
+use borrow.Author.Tests.{le-leb, leb-true, ltb-true, lt-ltb}
 use lib.Dec.{leb, ltb}
 use lib.ListN.{length}
 use lib.Seq.{sets}
@@ -19,15 +19,7 @@ use Rattle.lines.proofs.BufferLaws.{put-none, put-then, put-length}
 use Rattle.transcript.specs.declared.Told.{Told}
 use Rattle.transcript.specs.Held.{mostMessages, holdsNext, Telling, goesOn, next, Turned, tellOn, heldTold, toldBy}
 
--- the test of the loop
-pub room-left : (size used : ℕ) → used ≤ size → leb longestAnswer (size - used) ≡ leb (used + longestAnswer) size
-room-left size used h = by (leb (used + longestAnswer) size) refl
-  where
-    by : (b : Bool) → leb (used + longestAnswer) size ≡ b → leb longestAnswer (size - used) ≡ b
-    by true e = le-leb longestAnswer (size - used) (omega (arith, leb-true (used + longestAnswer) size e))
-    by false e = lt-leb longestAnswer (size - used) (omega (arith, leb-false (used + longestAnswer) size e))
-
--- what it tells where it holds: at least one byte is held, there is room for the longest answer, and a number
+-- what the loop's test tells where it holds: at least one byte is held, there is room for the longest answer, and a number
 pub record GoesOn (left size used number : ℕ) : Type 0 where
   pub some : 1 ≤ left
   pub room : used + longestAnswer ≤ size

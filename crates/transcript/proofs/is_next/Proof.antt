@@ -4,7 +4,7 @@ use mathlib.Core.Path.{ap, _∙_}
 use lib.Dec.{leb, ltb}
 use Rattle.lines.specs.Buffer.{longestAnswer}
 use Rattle.transcript.specs.Held.{mostMessages, holdsNext}
-use Rattle.transcript.proofs.HeldLaws.{room-left}
+use Rattle.handler.proofs.AnyRoom.{room-left}
 use borrow.Author.Needs.{needs}
 use Rattle.transcript.proofs.is_next.Statement.{statement}
 use Rattle.transcript.proofs.is_next.Tie as tie
@@ -21,7 +21,7 @@ returns c =
     let start : tie.Start = search in
     let a = start .args in
     ap (λ (b : Bool). b && (leb longestAnswer (a .size - a .used) && ltb (a .number) mostMessages)) (at-is-held .is-held .ensures)
-    ∙ ap (λ (b : Bool). holdsNext (a .ended) (a .left) && (b && ltb (a .number) mostMessages)) (room-left (a .size) (a .used) (start .pre))
+    ∙ ap (λ (b : Bool). holdsNext (a .ended) (a .left) && (b && ltb (a .number) mostMessages)) (room-left longestAnswer (a .size) (a .used) (start .pre))
 
 pub is-next-spec : {M : Type 1} → statement M
 is-next-spec = tie.close (tie.spec is-held-requires sub-result returns)
