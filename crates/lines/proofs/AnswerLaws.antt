@@ -21,24 +21,24 @@ use Rattle.packing.proofs.ReportLaws.{lawful}
 use Rattle.packing.proofs.RoomLaws.{reports-read-back}
 use Rattle.io.specs.Counts.{Counts}
 use Rattle.lines.specs.Decimal.{decimal}
-use Rattle.lines.specs.Lines.{space, spaced, reportLine, refusalLine, lineOf, reportLines, answerText, linesOf}
+use Rattle.lines.specs.Lines.{FitWord, reportLine, refusalLine, lineOf, reportLines, answerText, linesOf}
 use Rattle.lines.specs.Buffer.{TextPut, longestLine, roomy, printed, answerPrinted}
 use Rattle.lines.proofs.Counting.{counts}
 use Rattle.lines.proofs.DecimalLaws.{decimal-length}
 use Rattle.lines.proofs.BufferLaws.{printed-there, printed-nowhere, printed-length, printed-fits}
-use Rattle.lines.proofs.LineLaws.{report-length, refusal-length}
+use Rattle.lines.proofs.LineLaws.{line-short, refusal-length}
 
--- NO LINE IS LONGER THAN 120 BYTES
+-- no line is longer than 120 bytes: a report's fields are at most 20 bits
 narrow-report : Narrow (reports .widths)
 narrow-report =
     (omega arith, (omega arith, (omega arith, (omega arith, (omega arith, (omega arith, (omega arith, (omega arith, (omega arith, (omega arith, tt))))))))))
 
-fields-short : (ws xs zs : List ℕ) → Narrow ws → Fit ws (xs ++ zs) → length (spaced xs) ≤ 11 * length xs
-fields-short ws [] zs n f = omega arith
-fields-short [] (x ∷ xs) zs n f = absurd f
-fields-short (w ∷ ws) (x ∷ xs) zs n f =
+fields-fit : (ws xs zs : List ℕ) → Narrow ws → Fit ws (xs ++ zs) → FitWord xs
+fields-fit ws [] zs n f = tt
+fields-fit [] (x ∷ xs) zs n f = absurd f
+fields-fit (w ∷ ws) (x ∷ xs) zs n f =
     let b : 2 ^ w ≤ 2 ^ 32 = pow-le-pow-right (omega arith) (n .0) in
-    omega (arith, length-append (space ∷ decimal x) (spaced xs), decimal-length 9 x (omega (arith, b, f .0)), fields-short ws xs zs (n .1) (f .1))
+    (omega (arith, b, f .0), fields-fit ws xs zs (n .1) (f .1))
 
 nine-fields : (r : Report) → length (fieldsOf r) ≡ 9
 nine-fields Noted = refl
@@ -49,14 +49,9 @@ nine-fields (Repriced sell party entry display working quantity) = refl
 nine-fields (Cancelled reason sell party entry limit quantity) = refl
 
 report-short : (number : ℕ) (r : Report) → number < 2 ^ 64 → packs reports r ≡ true → length (reportLine number r) ≤ longestLine
+unfolding reportLine
 report-short number r n h =
-    omega (
-      arith,
-      report-length number r,
-      decimal-length 19 number (omega arith),
-      fields-short (reports .widths) (fieldsOf r) (0 ∷ []) narrow-report (packs-fit reports r h .0),
-      nine-fields r,
-    )
+    line-short number (fieldsOf r) n (nine-fields r) (fields-fit (reports .widths) (fieldsOf r) (0 ∷ []) narrow-report (packs-fit reports r h .0))
 
 refusal-short : (number refusal : ℕ) → number < 2 ^ 64 → refusal < 2 ^ 32 → length (refusalLine number refusal) ≤ longestLine
 refusal-short number refusal n r =

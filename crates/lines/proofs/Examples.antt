@@ -4,7 +4,7 @@ use mathlib.Core.List.{[], _∷_}
 use mathlib.Core.Path.{_≡_, refl}
 use Rattle.packing.specs.declared.report.Report.the-variants.{Rested}
 use Rattle.lines.specs.Decimal.{spelt, decimal}
-use Rattle.lines.specs.Lines.{reportLine, refusalLine}
+use Rattle.lines.specs.Lines.{fieldLine, reportLine, refusalLine}
 
 zero-text : decimal 0 ≡ 48 ∷ []
 unfolding decimal spelt
@@ -34,7 +34,7 @@ highest-u64-text = refl
 -- "3 4 0 1 50 1 0 222 222 100"
 report-text : reportLine 3 (Rested true 50 1 222 222 100)
     ≡ 51 ∷ 32 ∷ 52 ∷ 32 ∷ 48 ∷ 32 ∷ 49 ∷ 32 ∷ 53 ∷ 48 ∷ 32 ∷ 49 ∷ 32 ∷ 48 ∷ 32 ∷ 50 ∷ 50 ∷ 50 ∷ 32 ∷ 50 ∷ 50 ∷ 50 ∷ 32 ∷ 49 ∷ 48 ∷ 48 ∷ 10 ∷ []
-unfolding reportLine decimal spelt
+unfolding reportLine fieldLine decimal spelt
 report-text = refl
 
 -- "0 refused 1"

@@ -1,5 +1,5 @@
 -- The lines that are printed, part by part, and how long they are.
-use Prim.Native.Nat.{ℕ, suc, _+_, _-_, _*_, _/_, _≤_, _<_}
+use Prim.Native.Nat.{ℕ, suc, _+_, _-_, _*_, _/_, _^_, _≤_, _<_}
 use mathlib.Core.List.{List, [], _∷_, _++_}
 use mathlib.Core.Option.{Option, none}
 use mathlib.Core.Path.{_≡_, sym, ap, _∙_}
@@ -14,16 +14,27 @@ use Rattle.packing.specs.Report.{reports, fieldsOf, unpacked, reportSize}
 use Rattle.packing.specs.Room.{readBack}
 use Rattle.packing.proofs.CodecLaws.{unpack-short}
 use Rattle.lines.specs.Decimal.{decimal}
-use Rattle.lines.specs.Lines.{space, spaced, reportLine, refusalLine, lineOf, reportLines}
+use Rattle.lines.specs.Buffer.{longestLine}
+use Rattle.lines.proofs.DecimalLaws.{decimal-length}
+use Rattle.lines.specs.Lines.{space, spaced, FitWord, fieldLine, refusalLine, lineOf, reportLines}
 
 -- HOW LONG the lines are, by their parts
-pub report-length : (number : ℕ) (r : Report) → length (reportLine number r) ≡ length (decimal number) + length (spaced (fieldsOf r)) + 1
-unfolding reportLine
-report-length number r = simp length-append
+pub line-length : (number : ℕ) (xs : List ℕ) → length (fieldLine number xs) ≡ length (decimal number) + length (spaced xs) + 1
+unfolding fieldLine
+line-length number xs = simp length-append
 
 pub refusal-length : (number refusal : ℕ) → length (refusalLine number refusal) ≡ length (decimal number) + 9 + length (decimal refusal) + 1
 unfolding refusalLine
 refusal-length number refusal = simp length-append
+
+-- NO LINE OF NINE FIELDS IS LONGER THAN 120 BYTES, where each fits 32 bits and the message's number 64
+fields-short : (xs : List ℕ) → FitWord xs → length (spaced xs) ≤ 11 * length xs
+fields-short [] f = omega arith
+fields-short (x ∷ xs) f =
+    omega (arith, length-append (space ∷ decimal x) (spaced xs), decimal-length 9 x (omega (arith, f .0)), fields-short xs (f .1))
+
+pub line-short : (number : ℕ) (xs : List ℕ) → number < 2 ^ 64 → length xs ≡ 9 → FitWord xs → length (fieldLine number xs) ≤ longestLine
+line-short number xs n nine f = omega (arith, line-length number xs, decimal-length 19 number (omega arith), fields-short xs f, nine)
 
 -- the next field, and the fields behind it
 pub next-field : (xs : List ℕ) (i : ℕ) → i < length xs → spaced (drop i xs) ≡ (space ∷ decimal (getD xs i 0)) ++ spaced (drop (i + 1) xs)

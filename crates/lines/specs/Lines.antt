@@ -1,5 +1,5 @@
 -- What the session program prints: document 01, "Class examples".
-use Prim.Native.Nat.{ℕ}
+use Prim.Native.Nat.{ℕ, _^_, _<_}
 use mathlib.Core.Bool.{cond}
 use mathlib.Core.List.{List, [], _∷_, _++_}
 use mathlib.Core.Option.{Option, none, some}
@@ -25,9 +25,18 @@ abbrev pub spaced : List ℕ → List ℕ
 spaced [] = []
 spaced (x ∷ xs) = (space ∷ decimal x) ++ spaced xs
 
+-- each fits 32 bits, so that it has ten digits at the most
+abbrev pub FitWord : List ℕ → Type 0
+FitWord [] = Unit {0}
+FitWord (x ∷ xs) = (x < 2 ^ 32) × FitWord xs
+
+-- a line of a message's number and of fields behind it
+unfoldable pub fieldLine : ℕ → List ℕ → List ℕ
+fieldLine number fields = decimal number ++ spaced fields ++ (lineEnd ∷ [])
+
 -- "It prints per report: message number, then the report's nine fields in order, decimal, one space between."
 unfoldable pub reportLine : ℕ → Report → List ℕ
-reportLine number report = decimal number ++ spaced (fieldsOf report) ++ (lineEnd ∷ [])
+reportLine number report = fieldLine number (fieldsOf report)
 
 -- "A refused message, a short last one included, prints its number, `refused`, the refusal"
 unfoldable pub refusalLine : ℕ → ℕ → List ℕ

@@ -6,7 +6,7 @@ ghost use lib.ListN.{length, take, drop};
 ghost use Rattle.packing.specs.Codec.{unpackOf};
 ghost use Rattle.packing.specs.Report.{reports, reportSize};
 ghost use Rattle.packing.specs.Room.{readBack};
-ghost use Rattle.lines.specs.Lines.{spaced, reportLine, refusalLine, lineOf, reportLines};
+ghost use Rattle.lines.specs.Lines.{spaced, fieldLine, reportLine, refusalLine, lineOf, reportLines};
 ghost use Rattle.lines.specs.Buffer.{TextPut, roomy, answerPrinted};
 use crate::text::put_field;
 use crate::text::put_number;
@@ -37,16 +37,22 @@ fn put_fields(out: &mut [u8], at: usize, fields: [u32; 9]) -> usize
     end
 }
 
-// The message's number and the report's nine fields, one space between.
-fn put_report(out: &mut [u8], at: usize, number: u64, report: Report) -> usize
-    requires { ⌜ at + length (reportLine number report) ≤ length (now out) ⌝ }
-    ensures { λ r. ⌜ TextPut (now (out .entry)) at (reportLine number report) (now (out .exit)) r ⌝ }
+// The message's number and nine fields, one space between.
+pub fn put_line(out: &mut [u8], at: usize, number: u64, fields: [u32; 9]) -> usize
+    requires { ⌜ at + length (fieldLine number fields) ≤ length (now out) ⌝ }
+    ensures { λ r. ⌜ TextPut (now (out .entry)) at (fieldLine number fields) (now (out .exit)) r ⌝ }
 {
-    let fields = fields_of(report);
     let start = put_number(out, at, number);
     let end = put_fields(out, start, fields);
     out[end] = b'\n';
     end + 1
+}
+
+fn put_report(out: &mut [u8], at: usize, number: u64, report: Report) -> usize
+    requires { ⌜ at + length (reportLine number report) ≤ length (now out) ⌝ }
+    ensures { λ r. ⌜ TextPut (now (out .entry)) at (reportLine number report) (now (out .exit)) r ⌝ }
+{
+    put_line(out, at, number, fields_of(report))
 }
 
 // The report at a place of the room; no line where none stands there.
@@ -92,7 +98,7 @@ fn put_refusal(out: &mut [u8], at: usize, number: u64, refusal: u32) -> usize
 }
 
 // Whether a buffer of so many bytes has room for so many lines from `at` on.
-fn is_roomy(size: usize, at: usize, lines: usize) -> bool
+pub fn is_roomy(size: usize, at: usize, lines: usize) -> bool
     ensures { λ r. ⌜ r ≡ roomy size at lines ⌝ }
 {
     if size < at {

@@ -1,15 +1,18 @@
-// The session program: a setup and then messages on standard input, each message's reports on standard output, in decimal. What is printed
-// for the bytes that are held is crate `transcript`'s; here they are read, and the lines are written.
+// The session program: a setup and then messages on standard input, each message's reports on standard output, in decimal; or, where its
+// argument is `book`, the book that each leaves. What is printed for the bytes that are held is crate `transcript`'s; here they are read, and
+// the lines are written.
 mod input;
 
 use input::fill;
 use input::keep;
+use libc::STDERR_FILENO;
 use libc::STDOUT_FILENO;
 use lines::line::LONGEST_ANSWER;
 use packing::message::SIZE as MESSAGE;
 use packing::setup::SIZE as SETUP;
 use series::Series;
 use transcript::MOST_MESSAGES;
+use transcript::View;
 use transcript::tell_held;
 use transcript::tell_setup;
 ghost use Prim.Native.Nat.{_-_, _≤_};
@@ -53,7 +56,7 @@ fn ready(input: &mut [u8], at: usize, held: usize) -> usize
 
 // Tells what is held, as far as there is room, and writes it out before more input is waited for, until the input is over and all is told.
 // The first message stands at `first`, and `count` bytes are held.
-fn run(start: Series, input: &mut [u8], first: usize, count: usize, out: &mut [u8])
+fn run(view: View, start: Series, input: &mut [u8], first: usize, count: usize, out: &mut [u8])
     requires { ⌜ (first ≤ count) × (count ≤ length (now input)) × (length (now input) ≤ 65536) × (longestAnswer ≤ length (now out)) ⌝ }
 {
     let mut series = start;
@@ -65,7 +68,7 @@ fn run(start: Series, input: &mut [u8], first: usize, count: usize, out: &mut [u
         if held == 0 {
             return;
         }
-        let told = tell_held(series, number, &input[..held], held < MESSAGE, out);
+        let told = tell_held(view, series, number, &input[..held], held < MESSAGE, out);
         if !is_out(out, told.used) {
             return;
         }
@@ -77,7 +80,7 @@ fn run(start: Series, input: &mut [u8], first: usize, count: usize, out: &mut [u
 }
 
 // The setup, and then the messages.
-fn play(input: &mut [u8], out: &mut [u8])
+fn play(view: View, input: &mut [u8], out: &mut [u8])
     requires { ⌜ (length (now input) ≤ 65536) × (longestAnswer ≤ length (now out)) ⌝ }
 {
     let got = fill(input, 0, SETUP);
@@ -91,11 +94,48 @@ fn play(input: &mut [u8], out: &mut [u8])
         return;
     }
     let series = begun.series;
-    run(series, input, begun.at, count, out)
+    run(view, series, input, begun.at, count, out)
+}
+
+fn begin(view: View) {
+    let mut input = [0u8; 65536];
+    let mut out = [0u8; 2 * LONGEST_ANSWER];
+    play(view, &mut input, &mut out)
+}
+
+// What the program's argument asks to see.
+enum Asked {
+    For(View),
+    Unknown,
+}
+
+// `book` asks for the book.
+fn asked_by(word: &[u8]) -> Asked {
+    if word.len() == 4 {
+        if (word[0] == b'b') & ((word[1] == b'o') & ((word[2] == b'o') & (word[3] == b'k'))) {
+            return Asked::For(View::Book);
+        }
+    }
+    Asked::Unknown
+}
+
+// No argument asks for the reports.
+fn view_asked() -> Asked {
+    if os::arg_count() < 2 {
+        return Asked::For(View::Reports);
+    }
+    let mut word = [0u8; 16];
+    let long = os::arg(1, &mut word);
+    asked_by(&word[..long])
 }
 
 fn main() {
-    let mut input = [0u8; 65536];
-    let mut out = [0u8; 2 * LONGEST_ANSWER];
-    play(&mut input, &mut out)
+    let Asked::For(view) = view_asked() else {
+        io::write_all(
+            STDERR_FILENO,
+            b"session: what can be asked for is the book, by `book`, and the reports, by nothing\n",
+        );
+        return;
+    };
+    begin(view)
 }

@@ -1,25 +1,26 @@
 // Plays every lesson of a bundle, one after the other, and prints under each one's name what the session program prints for it. The bundle
-// is what tests/bundle.py writes: of each lesson the length of its name and the name, the length of its bytes and the bytes. A length is
-// four bytes, most significant first.
+// is what tests/bundle.py writes: of each lesson the length of its name and the name, a byte for what is to be seen (1 for the book, else the
+// reports), the length of its bytes and the bytes. A length is four bytes, most significant first.
 use libc::STDIN_FILENO;
 use libc::STDOUT_FILENO;
 use lines::line::LONGEST_ANSWER;
 use series::Series;
 use test_reading::number_at;
+use transcript::View;
 use transcript::tell_held;
 use transcript::tell_setup;
 ghost use Prim.Native.Nat.{_+_, _<_, _≤_, min};
 ghost use lib.ListN.{length};
 
 // Tells the messages from `first` on, as far as there is room for their lines, and writes these out, until all are told.
-fn tell_messages(start: Series, run: &[u8], first: usize, out: &mut [u8])
+fn tell_messages(view: View, start: Series, run: &[u8], first: usize, out: &mut [u8])
     requires { ⌜ first ≤ length (now run) ⌝ }
 {
     let mut series = start;
     let mut number: u64 = 1;
     let mut at = first;
     while at < run.len() {
-        let told = tell_held(series, number, &run[at..], true, out);
+        let told = tell_held(view, series, number, &run[at..], true, out);
         io::write_all(STDOUT_FILENO, &out[..told.used]);
         if told.at == 0 {
             return;
@@ -31,14 +32,14 @@ fn tell_messages(start: Series, run: &[u8], first: usize, out: &mut [u8])
     }
 }
 
-fn play(run: &[u8], out: &mut [u8]) {
+fn play(view: View, run: &[u8], out: &mut [u8]) {
     let begun = tell_setup(run, out);
     io::write_all(STDOUT_FILENO, &out[..begun.used]);
     if begun.refusal != 0 {
         return;
     }
     let series = begun.series;
-    tell_messages(series, run, begun.at, out)
+    tell_messages(view, series, run, begun.at, out)
 }
 
 // The end of the part of the bundle whose length stands at `at`; no more than the bundle's end.
@@ -74,15 +75,40 @@ fn print_name(name: &[u8]) {
     io::write_all(STDOUT_FILENO, b"\n");
 }
 
+// What the byte at a place asks to see.
+fn view_at(bundle: &[u8], at: usize) -> View
+    requires { ⌜ at ≤ length (now bundle) ⌝ }
+{
+    if at < bundle.len() {
+        if bundle[at] == 1 {
+            return View::Book;
+        }
+    }
+    View::Reports
+}
+
+// The place behind that byte.
+fn place_behind(bundle: &[u8], at: usize) -> usize
+    requires { ⌜ at ≤ length (now bundle) ⌝ }
+    ensures { λ r. ⌜ (at ≤ r) × (r ≤ length (now (bundle .entry))) ⌝ }
+{
+    if at < bundle.len() {
+        return at + 1;
+    }
+    at
+}
+
 fn play_all(bundle: &[u8], out: &mut [u8]) {
     let mut at = 0usize;
     while at < bundle.len() {
         let named = part_end(bundle, at);
         let name = part_start(at, named);
         print_name(&bundle[name..named]);
-        let end = part_end(bundle, named);
-        let start = part_start(named, end);
-        play(&bundle[start..end], out);
+        let view = view_at(bundle, named);
+        let viewed = place_behind(bundle, named);
+        let end = part_end(bundle, viewed);
+        let start = part_start(viewed, end);
+        play(view, &bundle[start..end], out);
         at = end;
     }
 }

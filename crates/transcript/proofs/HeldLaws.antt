@@ -17,6 +17,7 @@ use Rattle.lines.specs.Buffer.{TextPut, longestAnswer}
 use Rattle.lines.proofs.Counting.{counts}
 use Rattle.lines.proofs.BufferLaws.{put-none, put-then, put-length}
 use Rattle.transcript.specs.declared.Told.{Told}
+use Rattle.transcript.specs.declared.View.{View}
 use Rattle.transcript.specs.Held.{mostMessages, holdsNext, Telling, goesOn, next, Turned, tellOn, heldTold, toldBy}
 
 -- what the loop's test tells where it holds: at least one byte is held, there is room for the longest answer, and a number
@@ -48,19 +49,19 @@ goes-where ended left size used number h space few = rw (h, le-leb (used + longe
 abbrev pub tellingAs : Told → List ℕ → Telling
 tellingAs t text = record { series = t .series; number = t .number; at = t .at; text = text }
 
-pub record Underway (start : Series) (number : ℕ) (held : List ℕ) (ended : Bool) (out₀ : List ℕ) (told : Told) (out : List ℕ) : Type 0 where
+pub record Underway (view : View) (start : Series) (number : ℕ) (held : List ℕ) (ended : Bool) (out₀ : List ℕ) (told : Told) (out : List ℕ) : Type 0 where
   pub left : ℕ
   pub text : List ℕ
-  pub same : tellOn left ended held (length out₀) (tellingAs told text) ≡ heldTold start number held ended (length out₀)
+  pub same : tellOn view left ended held (length out₀) (tellingAs told text) ≡ heldTold view start number held ended (length out₀)
   pub enough : length held ≤ told .at + left
   pub within : told .at ≤ length held
   pub put : TextPut out₀ 0 text out (told .used)
   pub fits : told .used ≤ length out
 
-pub begins : (start : Series) (number : ℕ) (held : List ℕ) (ended : Bool) (out : List ℕ)
-    → Underway start number held ended out (record { series = start; number = number; at = 0; used = 0 }) out
+pub begins : (view : View) (start : Series) (number : ℕ) (held : List ℕ) (ended : Bool) (out : List ℕ)
+    → Underway view start number held ended out (record { series = start; number = number; at = 0; used = 0 }) out
 unfolding heldTold
-begins start number held ended out = record {
+begins view start number held ended out = record {
   left = length held;
   text = [];
   same = refl;
@@ -70,8 +71,8 @@ begins start number held ended out = record {
   fits = omega arith;
 }
 
-module _ {start : Series} {number : ℕ} {held : List ℕ} {ended : Bool} {out₀ out : List ℕ} {told : Told}
-    (u : Underway start number held ended out₀ told out) where
+module _ {view : View} {start : Series} {number : ℕ} {held : List ℕ} {ended : Bool} {out₀ out : List ℕ} {told : Told}
+    (u : Underway view start number held ended out₀ told out) where
   pub size : length out ≡ length out₀
   size = put-length (u .put)
 
@@ -84,19 +85,19 @@ module _ {start : Series} {number : ℕ} {held : List ℕ} {ended : Bool} {out�
       used = omega (arith, u .put .ends)
 
   pub goes : {told′ : Told} {out′ : List ℕ} → goesOn ended (length held - told .at) (length out) (told .used) (told .number) ≡ true
-      → Turned held told out told′ out′ → Underway start number held ended out₀ told′ out′
+      → Turned view held told out told′ out′ → Underway view start number held ended out₀ told′ out′
   unfolding tellOn
   goes {told′} {out′} h t = by (u .left) (u .same) (u .enough)
     where
       on : GoesOn (length held - told .at) (length out) (told .used) (told .number)
       on = goes-on ended (length held - told .at) (length out) (told .used) (told .number) h
 
-      by : (n : ℕ) → tellOn n ended held (length out₀) (tellingAs told (u .text)) ≡ heldTold start number held ended (length out₀)
-          → length held ≤ told .at + n → Underway start number held ended out₀ told′ out′
+      by : (n : ℕ) → tellOn view n ended held (length out₀) (tellingAs told (u .text)) ≡ heldTold view start number held ended (length out₀)
+          → length held ≤ told .at + n → Underway view start number held ended out₀ told′ out′
       by zero e m = absurd (omega (arith, on .some))
       by (suc n) e m = record {
         left = n;
-        text = next held (tellingAs told (u .text)) .text;
+        text = next view held (tellingAs told (u .text)) .text;
         same = rw (t .series, t .number, t .at) (rw (sym same-test ∙ h) at e);
         enough = omega (arith, on .some, t .at);
         within = omega (arith, t .at);
@@ -105,15 +106,15 @@ module _ {start : Series} {number : ℕ} {held : List ℕ} {ended : Bool} {out�
       }
 
   pub less : {told′ : Told} {out′ : List ℕ} → goesOn ended (length held - told .at) (length out) (told .used) (told .number) ≡ true
-      → Turned held told out told′ out′ → length held - told′ .at < length held - told .at
+      → Turned view held told out told′ out′ → length held - told′ .at < length held - told .at
   less h t = omega (arith, goes-on ended (length held - told .at) (length out) (told .used) (told .number) h .some, t .at)
 
   pub ends : goesOn ended (length held - told .at) (length out) (told .used) (told .number) ≡ false
-      → (told ≡ toldBy (heldTold start number held ended (length out₀)))
-      × ((out ≡ sets out₀ 0 (heldTold start number held ended (length out₀) .text)) × ((told .at ≤ length held) × Counts (told .used) out))
+      → (told ≡ toldBy (heldTold view start number held ended (length out₀)))
+      × ((out ≡ sets out₀ 0 (heldTold view start number held ended (length out₀) .text)) × ((told .at ≤ length held) × Counts (told .used) out))
   unfolding tellOn
   ends h =
-      let e : tellingAs told (u .text) ≡ heldTold start number held ended (length out₀) = sym (by (u .left)) ∙ u .same in (
+      let e : tellingAs told (u .text) ≡ heldTold view start number held ended (length out₀) = sym (by (u .left)) ∙ u .same in (
         ap (λ (n : ℕ). record { series = told .series; number = told .number; at = told .at; used = n }) used ∙ ap toldBy e,
         (u .put .stored ∙ ap (λ (t : Telling). sets out₀ 0 (t .text)) e, (u .within, counts (told .used) out (u .fits))),
       )
@@ -121,6 +122,6 @@ module _ {start : Series} {number : ℕ} {held : List ℕ} {ended : Bool} {out�
       used : told .used ≡ length (u .text)
       used = omega (arith, u .put .ends)
 
-      by : (n : ℕ) → tellOn n ended held (length out₀) (tellingAs told (u .text)) ≡ tellingAs told (u .text)
+      by : (n : ℕ) → tellOn view n ended held (length out₀) (tellingAs told (u .text)) ≡ tellingAs told (u .text)
       by zero = refl
       by (suc n) = rw (sym same-test ∙ h) refl

@@ -12,6 +12,7 @@ use Rattle.packing.specs.Message.{messageSize}
 use Rattle.series.specs.declared.Series.{Series}
 use Rattle.lines.specs.Buffer.{longestAnswer}
 use Rattle.transcript.specs.declared.Told.{Told}
+use Rattle.transcript.specs.declared.View.{View}
 use Rattle.transcript.specs.Held.{mostMessages, holdsNext, Telling, goesOn, next, tellOn, heldTold, toldBy}
 use Rattle.transcript.proofs.HeldLaws.{goes-on, goes-where}
 
@@ -38,14 +39,14 @@ pub record Onward (held : List ℕ) (t u : Telling) : Type 0 where
   pub within : u .at ≤ length held
   pub paced : u .number + t .at ≤ t .number + u .at
 
-pub onward : (turns : ℕ) (ended : Bool) (held : List ℕ) (size : ℕ) (t : Telling) → t .at ≤ length held → Onward held t (tellOn turns ended held size t)
+pub onward : (view : View) (turns : ℕ) (ended : Bool) (held : List ℕ) (size : ℕ) (t : Telling) → t .at ≤ length held → Onward held t (tellOn view turns ended held size t)
 unfolding tellOn
-onward zero ended held size t h = record { number = omega arith; at = omega arith; within = h; paced = omega arith }
-onward (suc turns) ended held size t h =
-    by (goesOn ended (length held - t .at) size (length (t .text)) (t .number)) refl (onward turns ended held size (next held t) (omega arith))
+onward view zero ended held size t h = record { number = omega arith; at = omega arith; within = h; paced = omega arith }
+onward view (suc turns) ended held size t h =
+    by (goesOn ended (length held - t .at) size (length (t .text)) (t .number)) refl (onward view turns ended held size (next view held t) (omega arith))
   where
     by : (b : Bool) → goesOn ended (length held - t .at) size (length (t .text)) (t .number) ≡ b
-        → Onward held (next held t) (tellOn turns ended held size (next held t)) → Onward held t (cond b (tellOn turns ended held size (next held t)) t)
+        → Onward held (next view held t) (tellOn view turns ended held size (next view held t)) → Onward held t (cond b (tellOn view turns ended held size (next view held t)) t)
     by true e o =
         let some = goes-on ended (length held - t .at) size (length (t .text)) (t .number) e .some in
         record { number = omega (arith, o .number); at = omega (arith, o .at); within = o .within; paced = omega (arith, o .paced, some) }
@@ -57,10 +58,10 @@ pub record ToldSome (number : ℕ) (t : Telling) : Type 0 where
   pub moved : 1 ≤ t .at
 
 -- THEOREM. EACH CALL THAT FINDS A MESSAGE TELLS ONE AT LEAST, in a buffer that has room for the longest answer
-pub tells-some : (s : Series) (number : ℕ) (held : List ℕ) (ended : Bool) (size : ℕ) → holdsNext ended (length held) ≡ true → longestAnswer ≤ size
-    → number < mostMessages → ToldSome number (heldTold s number held ended size)
+pub tells-some : (view : View) (s : Series) (number : ℕ) (held : List ℕ) (ended : Bool) (size : ℕ) → holdsNext ended (length held) ≡ true → longestAnswer ≤ size
+    → number < mostMessages → ToldSome number (heldTold view s number held ended size)
 unfolding heldTold tellOn
-tells-some s number held ended size h space few = by (length held) refl
+tells-some view s number held ended size h space few = by (length held) refl
   where
     first : Telling
     first = record { series = s; number = number; at = 0; text = [] }
@@ -71,21 +72,21 @@ tells-some s number held ended size h space few = by (length held) refl
     on : goesOn ended (length held - 0) size 0 number ≡ true
     on = goes-where ended (length held - 0) size 0 number (ap (holdsNext ended) all ∙ h) space few
 
-    by : (n : ℕ) → length held ≡ n → ToldSome number (tellOn n ended held size first)
+    by : (n : ℕ) → length held ≡ n → ToldSome number (tellOn view n ended held size first)
     by zero e = absurd (omega (arith, goes-on ended (length held - 0) size 0 number on .some))
     by (suc n) e =
-        let o = onward n ended held size (next held first) (omega arith) in
+        let o = onward view n ended held size (next view held first) (omega arith) in
         rw on (record { numbered = omega (arith, o .number); moved = omega (arith, o .at, e) })
 
 -- and no more than there is
-pub tells-within : (s : Series) (number : ℕ) (held : List ℕ) (ended : Bool) (size : ℕ)
-    → Onward held (record { series = s; number = number; at = 0; text = [] }) (heldTold s number held ended size)
+pub tells-within : (view : View) (s : Series) (number : ℕ) (held : List ℕ) (ended : Bool) (size : ℕ)
+    → Onward held (record { series = s; number = number; at = 0; text = [] }) (heldTold view s number held ended size)
 unfolding heldTold
-tells-within s number held ended size = onward (length held) ended held size (record { series = s; number = number; at = 0; text = [] }) (omega arith)
+tells-within view s number held ended size = onward view (length held) ended held size (record { series = s; number = number; at = 0; text = [] }) (omega arith)
 
 -- the same of what `tell_held` answers
-pub told-some : (s : Series) (number : ℕ) (held : List ℕ) (ended : Bool) (size : ℕ) {r : Told} → r ≡ toldBy (heldTold s number held ended size)
+pub told-some : (view : View) (s : Series) (number : ℕ) (held : List ℕ) (ended : Bool) (size : ℕ) {r : Told} → r ≡ toldBy (heldTold view s number held ended size)
     → holdsNext ended (length held) ≡ true → longestAnswer ≤ size → number < mostMessages → (number < r .number) × (1 ≤ r .at)
-told-some s number held ended size {r} e h space few =
-    let t = tells-some s number held ended size h space few in
+told-some view s number held ended size {r} e h space few =
+    let t = tells-some view s number held ended size h space few in
     (omega (arith, ap (λ (x : Told). x .number) e, t .numbered), omega (arith, ap (λ (x : Told). x .at) e, t .moved))

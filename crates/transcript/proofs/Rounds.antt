@@ -21,6 +21,7 @@ use Rattle.series.specs.declared.Series.{Series}
 use Rattle.series.specs.Series.{newSeries}
 use Rattle.lines.specs.Lines.{refusalLine}
 use Rattle.lines.specs.Buffer.{longestAnswer}
+use Rattle.transcript.specs.declared.View.{View}
 use Rattle.transcript.specs.Transcript.{answered, textOf, messagesIn, messagesOf, linesFor, linesFrom, printedFor, transcript, setupIn, setupText}
 use Rattle.transcript.specs.Held.{mostMessages, holdsNext, Telling, goesOn, next, tellOn, heldTold}
 use Rattle.transcript.proofs.Progress.{holds-last, tells-some, tells-within}
@@ -55,12 +56,12 @@ messages-next (b ∷ bytes) h =
 
 -- ---- what is held, told as far as there is room ----
 
-lines-next : (number : ℕ) (s : Series) (bytes : List ℕ) → 1 ≤ length bytes
-    → linesFrom number s bytes
-    ≡ textOf number (answered s (take messageSize bytes))
-    ++ linesFrom (number + 1) (answered s (take messageSize bytes) .answer .series) (drop messageSize bytes)
+lines-next : (view : View) (number : ℕ) (s : Series) (bytes : List ℕ) → 1 ≤ length bytes
+    → linesFrom view number s bytes
+    ≡ textOf view number (answered s (take messageSize bytes))
+    ++ linesFrom view (number + 1) (answered s (take messageSize bytes) .answer .series) (drop messageSize bytes)
 unfolding linesFor
-lines-next number s bytes h = ap (linesFor number s) (messages-next bytes h)
+lines-next view number s bytes h = ap (linesFor view number s) (messages-next bytes h)
 
 drop-within : (n : ℕ) (l : List ℕ) → drop (min n (length l)) l ≡ drop n l
 drop-within n l = by (leb n (length l)) refl
@@ -113,33 +114,33 @@ held-message ended held more at whole h = by ended whole h
         }
 
 -- what is printed so far, and what the rest of the input prints
-abbrev withRest : List ℕ → List ℕ → Telling → List ℕ
-withRest held more t = t .text ++ linesFrom (t .number) (t .series) (rest held more (t .at))
+abbrev withRest : View → List ℕ → List ℕ → Telling → List ℕ
+withRest view held more t = t .text ++ linesFrom view (t .number) (t .series) (rest held more (t .at))
 
-module _ (ended : Bool) (held more : List ℕ) (whole : ended ≡ true → more ≡ []) where
+module _ (view : View) (ended : Bool) (held more : List ℕ) (whole : ended ≡ true → more ≡ []) where
   -- together they stay the same from message to message
-  next-same : (t : Telling) → holdsNext ended (length held - t .at) ≡ true → withRest held more t ≡ withRest held more (next held t)
+  next-same : (t : Telling) → holdsNext ended (length held - t .at) ≡ true → withRest view held more t ≡ withRest view held more (next view held t)
   next-same t h =
       let m = held-message ended held more (t .at) whole h in
       ap (λ (l : List ℕ). t .text ++ l)
-      (lines-next (t .number) (t .series) (rest held more (t .at)) (m .some)
-      ∙ ap₂ (λ (a b : List ℕ). textOf (t .number) (answered (t .series) a) ++ linesFrom (t .number + 1) (answered (t .series) a .answer .series) b)
+      (lines-next view (t .number) (t .series) (rest held more (t .at)) (m .some)
+      ∙ ap₂ (λ (a b : List ℕ). textOf view (t .number) (answered (t .series) a) ++ linesFrom view (t .number + 1) (answered (t .series) a .answer .series) b)
       (m .message) (m .behind))
       ∙ sym (append-assoc (t .text) _ _)
 
-  tell-same : (turns size : ℕ) (t : Telling) → withRest held more t ≡ withRest held more (tellOn turns ended held size t)
+  tell-same : (turns size : ℕ) (t : Telling) → withRest view held more t ≡ withRest view held more (tellOn view turns ended held size t)
   unfolding tellOn
   tell-same zero size t = refl
-  tell-same (suc turns) size t = by (goesOn ended (length held - t .at) size (length (t .text)) (t .number)) refl (tell-same turns size (next held t))
+  tell-same (suc turns) size t = by (goesOn ended (length held - t .at) size (length (t .text)) (t .number)) refl (tell-same turns size (next view held t))
     where
       by : (b : Bool) → goesOn ended (length held - t .at) size (length (t .text)) (t .number) ≡ b
-          → withRest held more (next held t) ≡ withRest held more (tellOn turns ended held size (next held t))
-          → withRest held more t ≡ withRest held more (cond b (tellOn turns ended held size (next held t)) t)
+          → withRest view held more (next view held t) ≡ withRest view held more (tellOn view turns ended held size (next view held t))
+          → withRest view held more t ≡ withRest view held more (cond b (tellOn view turns ended held size (next view held t)) t)
       by true h later = next-same t (and-left (holdsNext ended (length held - t .at)) _ h) ∙ later
       by false h later = refl
 
   -- WHAT IS TOLD OF WHAT IS HELD is the front of what the input prints from there on, and what the rest of the input prints stands behind it
-  pub held-part : (s : Series) (number size : ℕ) → linesFrom number s (held ++ more) ≡ withRest held more (heldTold s number held ended size)
+  pub held-part : (s : Series) (number size : ℕ) → linesFrom view number s (held ++ more) ≡ withRest view held more (heldTold view s number held ended size)
   unfolding heldTold
   held-part s number size = tell-same (length held) size (record { series = s; number = number; at = 0; text = [] })
 
@@ -148,52 +149,52 @@ module _ (ended : Bool) (held more : List ℕ) (whole : ended ≡ true → more 
 -- WHAT A PROGRAM PRINTS IN ROUNDS, from message `number` on and for the bytes up to the input's end. In each round it holds the next of these bytes, as many as
 -- it likes; `more` are those still to come, none once the input has ended. It prints what is told of those that it holds, keeps those that are not yet
 -- answered, and goes on until nothing is left
-pub data Rounds : Series → ℕ → List ℕ → List ℕ → Type 0 where
-  over : {s : Series} {number : ℕ} → Rounds s number [] []
+pub data Rounds (view : View) : Series → ℕ → List ℕ → List ℕ → Type 0 where
+  over : {s : Series} {number : ℕ} → Rounds view s number [] []
   round : {s : Series} {number : ℕ} {text : List ℕ} (held more : List ℕ) (ended : Bool) (size : ℕ) → (ended ≡ true → more ≡ [])
-      → Rounds (heldTold s number held ended size .series) (heldTold s number held ended size .number)
-      (rest held more (heldTold s number held ended size .at)) text
-      → Rounds s number (held ++ more) (heldTold s number held ended size .text ++ text)
+      → Rounds view (heldTold view s number held ended size .series) (heldTold view s number held ended size .number)
+      (rest held more (heldTold view s number held ended size .at)) text
+      → Rounds view s number (held ++ more) (heldTold view s number held ended size .text ++ text)
 
 -- THEOREM. HOWEVER AN INPUT IS CUT INTO PARTS, at whole messages as `tell_held` leaves them, the texts of the parts put one behind the other are the whole's
-pub transcript-parts : {s : Series} {number : ℕ} {bytes text : List ℕ} → Rounds s number bytes text → linesFrom number s bytes ≡ text
+pub transcript-parts : {view : View} {s : Series} {number : ℕ} {bytes text : List ℕ} → Rounds view s number bytes text → linesFrom view number s bytes ≡ text
 unfolding messagesIn linesFor
 transcript-parts over = refl
-transcript-parts {s} {number} (round held more ended size whole later) =
-    held-part ended held more whole s number size ∙ ap (λ (l : List ℕ). heldTold s number held ended size .text ++ l) (transcript-parts later)
+transcript-parts {view} {s} {number} (round held more ended size whole later) =
+    held-part view ended held more whole s number size ∙ ap (λ (l : List ℕ). heldTold view s number held ended size .text ++ l) (transcript-parts later)
 
 -- AND THERE ARE SUCH ROUNDS, whatever the input, with any buffer that has room for the longest answer: each tells something, so that an end is reached.
 -- (11 bytes for each of 10^18 messages are more than there is)
-abbrev Reached : ℕ → Type 0
-Reached turns =
-    (s : Series) (number : ℕ) (bytes : List ℕ) → length bytes ≤ turns → number + length bytes ≤ mostMessages → Rounds s number bytes (linesFrom number s bytes)
+abbrev Reached : View → ℕ → Type 0
+Reached view turns =
+    (s : Series) (number : ℕ) (bytes : List ℕ) → length bytes ≤ turns → number + length bytes ≤ mostMessages → Rounds view s number bytes (linesFrom view number s bytes)
 
-module _ (size : ℕ) (space : longestAnswer ≤ size) where
-  none-left : Reached 0
+module _ (view : View) (size : ℕ) (space : longestAnswer ≤ size) where
+  none-left : Reached view 0
   unfolding messagesIn linesFor
   none-left s number [] h few = over
   none-left s number (b ∷ bytes) h few = absurd (omega arith)
 
-  one-more : (turns : ℕ) → Reached turns → Reached (suc turns)
+  one-more : (turns : ℕ) → Reached view turns → Reached view (suc turns)
   unfolding messagesIn linesFor
   one-more turns before s number [] h few = over
   one-more turns before s number (b ∷ bytes) h few =
       let held : List ℕ = b ∷ bytes in
-      let u : Telling = heldTold s number held true size in
-      let on = tells-within s number held true size in
-      let some = tells-some s number held true size (holds-last (length held) (omega arith)) space (omega arith) in
+      let u : Telling = heldTold view s number held true size in
+      let on = tells-within view s number held true size in
+      let some = tells-some view s number held true size (holds-last (length held) (omega arith)) space (omega arith) in
       let left : length (rest held [] (u .at)) ≡ length held - u .at =
       ap length (append-nil (drop (u .at) held)) ∙ length-drop (u .at) held in
       let later = before (u .series) (u .number) (rest held [] (u .at)) (omega (arith, left, some .moved, h))
       (omega (arith, left, on .paced, on .within, few)) in
-      subst (λ (l : List ℕ). Rounds s number l (linesFrom number s l)) (append-nil held)
-      (subst (Rounds s number (held ++ [])) (sym (held-part true held [] (λ z. refl) s number size)) (round held [] true size (λ z. refl) later))
+      subst (λ (l : List ℕ). Rounds view s number l (linesFrom view number s l)) (append-nil held)
+      (subst (Rounds view s number (held ++ [])) (sym (held-part view true held [] (λ z. refl) s number size)) (round held [] true size (λ z. refl) later))
 
-  reach : (turns : ℕ) → Reached turns
+  reach : (turns : ℕ) → Reached view turns
   reach zero = none-left
   reach (suc turns) = one-more turns (reach turns)
 
-  pub rounds-reach : (s : Series) (number : ℕ) (bytes : List ℕ) → number + length bytes ≤ mostMessages → Rounds s number bytes (linesFrom number s bytes)
+  pub rounds-reach : (s : Series) (number : ℕ) (bytes : List ℕ) → number + length bytes ≤ mostMessages → Rounds view s number bytes (linesFrom view number s bytes)
   rounds-reach s number bytes few = reach (length bytes) s number bytes (omega arith) few
 
 -- what stands in front of what is held is what stands in front of the input
@@ -221,29 +222,29 @@ module _ (n : ℕ) (held more : List ℕ) (whole : length held < n → more ≡ 
           ∙ drop-of-length-le held {i = min (length held) n} (omega arith))
 
 -- A WHOLE SESSION. First it holds bytes for the setup, fewer than these only where no more are to come; a setup that is refused is all that it reads
-pub data Session : List ℕ → List ℕ → Type 0 where
-  refused : (held more : List ℕ) → (length held < setupSize → more ≡ []) → setupIn held ≡ none → Session (held ++ more) (setupText none)
+pub data Session (view : View) : List ℕ → List ℕ → Type 0 where
+  refused : (held more : List ℕ) → (length held < setupSize → more ≡ []) → setupIn held ≡ none → Session view (held ++ more) (setupText none)
   played : {text : List ℕ} (held more : List ℕ) (setup : Setup) → (length held < setupSize → more ≡ []) → setupIn held ≡ some setup
-      → Rounds (newSeries setup) 1 (rest held more (min (length held) setupSize)) text → Session (held ++ more) (setupText (some setup) ++ text)
+      → Rounds view (newSeries setup) 1 (rest held more (min (length held) setupSize)) text → Session view (held ++ more) (setupText (some setup) ++ text)
 
 setup-same : (held more : List ℕ) → (length held < setupSize → more ≡ []) → setupIn (held ++ more) ≡ setupIn held
 setup-same held more whole = ap (unpackOf setups) (sym (front-held setupSize held more whole))
 
 -- THEOREM. WHAT IT PRINTS OVER ALL ITS ROUNDS IS THE TRANSCRIPT of its input
-pub session-prints : {input text : List ℕ} → Session input text → transcript input ≡ text
+pub session-prints : {view : View} {input text : List ℕ} → Session view input text → transcript view input ≡ text
 unfolding transcript
-session-prints (refused held more whole u) = ap (λ (o : Option Setup). printedFor o (drop setupSize (held ++ more))) (setup-same held more whole ∙ u)
-session-prints (played held more setup whole u later) =
-    ap (λ (o : Option Setup). printedFor o (drop setupSize (held ++ more))) (setup-same held more whole ∙ u)
-    ∙ ap (linesFrom 1 (newSeries setup)) (behind-front setupSize held more whole)
+session-prints {view} (refused held more whole u) = ap (λ (o : Option Setup). printedFor view o (drop setupSize (held ++ more))) (setup-same held more whole ∙ u)
+session-prints {view} (played held more setup whole u later) =
+    ap (λ (o : Option Setup). printedFor view o (drop setupSize (held ++ more))) (setup-same held more whole ∙ u)
+    ∙ ap (linesFrom view 1 (newSeries setup)) (behind-front setupSize held more whole)
     ∙ transcript-parts later
 
 -- "input that ends inside the setup prints the same; a good setup alone prints nothing" (docs/DECISIONS.md)
-pub short-setup : (input : List ℕ) → length input < setupSize → transcript input ≡ refusalLine 0 nothing
+pub short-setup : (view : View) (input : List ℕ) → length input < setupSize → transcript view input ≡ refusalLine 0 nothing
 unfolding transcript
-short-setup input h = ap (λ (o : Option Setup). printedFor o (drop setupSize input)) (unpack-short setups input h)
+short-setup view input h = ap (λ (o : Option Setup). printedFor view o (drop setupSize input)) (unpack-short setups input h)
 
-pub setup-alone : (input : List ℕ) (setup : Setup) → setupIn input ≡ some setup → length input ≤ setupSize → transcript input ≡ []
+pub setup-alone : (view : View) (input : List ℕ) (setup : Setup) → setupIn input ≡ some setup → length input ≤ setupSize → transcript view input ≡ []
 unfolding transcript linesFor messagesIn
-setup-alone input setup u h =
-    ap (λ (o : Option Setup). printedFor o (drop setupSize input)) u ∙ ap (linesFrom 1 (newSeries setup)) (drop-of-length-le input {i = setupSize} h)
+setup-alone view input setup u h =
+    ap (λ (o : Option Setup). printedFor view o (drop setupSize input)) u ∙ ap (linesFrom view 1 (newSeries setup)) (drop-of-length-le input {i = setupSize} h)

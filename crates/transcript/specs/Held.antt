@@ -13,6 +13,7 @@ use Rattle.series.specs.Series.{opened}
 use Rattle.lines.specs.Buffer.{TextPut, longestAnswer, printed}
 use Rattle.transcript.specs.declared.Begun.{Begun}
 use Rattle.transcript.specs.declared.Told.{Told}
+use Rattle.transcript.specs.declared.View.{View}
 use Rattle.transcript.specs.Transcript.{answered, textOf, setupIn, setupText}
 
 -- ---- setup ----
@@ -52,31 +53,31 @@ abbrev pub goesOn : Bool → ℕ → ℕ → ℕ → ℕ → Bool
 goesOn ended left size used number = holdsNext ended left && (leb (used + longestAnswer) size && ltb number mostMessages)
 
 -- one message more; behind a short one all is told
-abbrev pub next : List ℕ → Telling → Telling
-next held t = record {
+abbrev pub next : View → List ℕ → Telling → Telling
+next view held t = record {
   series = answered (t .series) (messageAt held (t .at)) .answer .series;
   number = t .number + 1;
   at = min (t .at + messageSize) (length held);
-  text = t .text ++ textOf (t .number) (answered (t .series) (messageAt held (t .at)));
+  text = t .text ++ textOf view (t .number) (answered (t .series) (messageAt held (t .at)));
 }
 
 -- at most so many messages more
-unfoldable pub tellOn : ℕ → Bool → List ℕ → ℕ → Telling → Telling
-tellOn zero ended held size t = t
-tellOn (suc turns) ended held size t =
-    cond (goesOn ended (length held - t .at) size (length (t .text)) (t .number)) (tellOn turns ended held size (next held t)) t
+unfoldable pub tellOn : View → ℕ → Bool → List ℕ → ℕ → Telling → Telling
+tellOn view zero ended held size t = t
+tellOn view (suc turns) ended held size t =
+    cond (goesOn ended (length held - t .at) size (length (t .text)) (t .number)) (tellOn view turns ended held size (next view held t)) t
 
 -- WHAT IS HELD, TOLD from its first byte on, as far as it goes into a buffer of so many bytes: there are no more messages than bytes
-unfoldable pub heldTold : Series → ℕ → List ℕ → Bool → ℕ → Telling
-heldTold s number held ended size =
-    tellOn (length held) ended held size (record { series = s; number = number; at = 0; text = [] })
+unfoldable pub heldTold : View → Series → ℕ → List ℕ → Bool → ℕ → Telling
+heldTold view s number held ended size =
+    tellOn view (length held) ended held size (record { series = s; number = number; at = 0; text = [] })
 
 -- one message told: the same in Rattle's type, with its text put behind what was printed
-pub record Turned (held : List ℕ) (t : Told) (out : List ℕ) (t′ : Told) (out′ : List ℕ) : Type 0 where
+pub record Turned (view : View) (held : List ℕ) (t : Told) (out : List ℕ) (t′ : Told) (out′ : List ℕ) : Type 0 where
   pub series : t′ .series ≡ answered (t .series) (messageAt held (t .at)) .answer .series
   pub number : t′ .number ≡ t .number + 1
   pub at : t′ .at ≡ min (t .at + messageSize) (length held)
-  pub put : TextPut out (t .used) (textOf (t .number) (answered (t .series) (messageAt held (t .at)))) out′ (t′ .used)
+  pub put : TextPut out (t .used) (textOf view (t .number) (answered (t .series) (messageAt held (t .at)))) out′ (t′ .used)
   pub fits : t′ .used ≤ length out′
 
 -- the whole in Rattle's type

@@ -9,10 +9,14 @@ use Rattle.packing.specs.Codec.{nothing, unpackOf}
 use Rattle.packing.specs.Setup.{setups, setupSize}
 use Rattle.packing.specs.Message.{messageSize}
 use Rattle.packing.specs.Room.{roomSize}
+use Rattle.book.specs.Shape.{entriesOf}
 use Rattle.series.specs.declared.Series.{Series}
 use Rattle.series.specs.Series.{newSeries}
 use Rattle.handler.specs.Handle.{Handled, handled}
 use Rattle.lines.specs.Lines.{refusalLine, answerText}
+use Rattle.board.specs.Board.{boardText}
+use Rattle.transcript.specs.declared.View.{View}
+use Rattle.transcript.specs.declared.View.the-variants.{Reports, Book}
 
 -- ---- one message ----
 
@@ -20,9 +24,11 @@ use Rattle.lines.specs.Lines.{refusalLine, answerText}
 unfoldable pub answered : Series → List ℕ → Handled
 answered s message = handled s message (replicate roomSize 0)
 
--- what is printed for message `number`, by its answer: a line for each report, or the line of its refusal
-abbrev pub textOf : ℕ → Handled → List ℕ
-textOf number h = answerText number (h .answer .refusal) (h .answer .count) (h .room)
+-- what is printed for message `number`, by its answer: a line for each report, or the line of its refusal; or, where the book is to be seen, a line for each
+-- entry that rests in the series that is left. (A refusal leaves the series as it stood, and so the book)
+abbrev pub textOf : View → ℕ → Handled → List ℕ
+textOf Reports number h = answerText number (h .answer .refusal) (h .answer .count) (h .room)
+textOf Book number h = boardText number (entriesOf (h .answer .series .book))
 
 -- ---- the messages of an input ----
 
@@ -40,13 +46,13 @@ messagesOf bytes = messagesIn (length bytes) bytes
 -- ---- the whole ----
 
 -- the messages' lines, in order, each once; the series that one message leaves is the one that the next finds
-unfoldable pub linesFor : ℕ → Series → List (List ℕ) → List ℕ
-linesFor number s [] = []
-linesFor number s (message ∷ rest) =
-    textOf number (answered s message) ++ linesFor (number + 1) (answered s message .answer .series) rest
+unfoldable pub linesFor : View → ℕ → Series → List (List ℕ) → List ℕ
+linesFor view number s [] = []
+linesFor view number s (message ∷ rest) =
+    textOf view number (answered s message) ++ linesFor view (number + 1) (answered s message .answer .series) rest
 
-abbrev pub linesFrom : ℕ → Series → List ℕ → List ℕ
-linesFrom number s bytes = linesFor number s (messagesOf bytes)
+abbrev pub linesFrom : View → ℕ → Series → List ℕ → List ℕ
+linesFrom view number s bytes = linesFor view number s (messagesOf bytes)
 
 -- the setup that stands in front of an input, and what is printed for it: "a refused setup prints `0 refused 1`"
 abbrev pub setupIn : List ℕ → Option Setup
@@ -57,10 +63,10 @@ setupText none = refusalLine 0 nothing
 setupText (some s) = []
 
 -- "and ends"; the messages behind any other are numbered from 1
-abbrev pub printedFor : Option Setup → List ℕ → List ℕ
-printedFor none bytes = setupText none
-printedFor (some setup) bytes = linesFrom 1 (newSeries setup) bytes
+abbrev pub printedFor : View → Option Setup → List ℕ → List ℕ
+printedFor view none bytes = setupText none
+printedFor view (some setup) bytes = linesFrom view 1 (newSeries setup) bytes
 
 -- THE WHOLE: "The session program reads setup, then messages, from standard input."
-unfoldable pub transcript : List ℕ → List ℕ
-transcript input = printedFor (setupIn input) (drop setupSize input)
+unfoldable pub transcript : View → List ℕ → List ℕ
+transcript view input = printedFor view (setupIn input) (drop setupSize input)

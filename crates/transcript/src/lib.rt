@@ -1,4 +1,6 @@
 // From the bytes that are held of a session's input to the lines that they give. Reading and writing are left to the programs.
+use board::board_lines;
+use handler::Answer;
 use handler::handle::handle_at;
 use lines::line::LONGEST_ANSWER;
 use lines::line::answer_lines;
@@ -13,13 +15,22 @@ ghost use lib.ListN.{length};
 ghost use lib.Seq.{sets};
 ghost use Prim.Native.Nat.{_+_, _≤_, _<_, min};
 ghost use Rattle.io.specs.Counts.{Counts};
-ghost use Rattle.packing.specs.Room.{roomSize};
+ghost use Rattle.packing.specs.Room.{roomSize, mostReports};
 ghost use Rattle.packing.specs.Message.{messageSize};
-ghost use Rattle.lines.specs.Buffer.{longestAnswer};
+ghost use Rattle.handler.specs.Handle.{inRoom};
+ghost use Rattle.lines.specs.Lines.{linesOf};
+ghost use Rattle.lines.specs.Buffer.{TextPut, longestAnswer};
+ghost use Rattle.transcript.specs.Transcript.{textOf};
 ghost use Rattle.transcript.specs.Held.{setupPrinted, begun, mostMessages, holdsNext, goesOn, Turned, heldTold, toldBy};
 
 // Numbers are given to fewer messages than this: no input is as long.
 pub const MOST_MESSAGES: u64 = 1000000000000000000;
+
+// What is told of each message: its reports, or the book that it leaves.
+pub enum View {
+    Reports,
+    Book,
+}
 
 // What a setup gave: the refusal or the series, where the first message stands, and how much was printed.
 pub struct Begun {
@@ -91,21 +102,36 @@ fn place_behind(at: usize, long: usize) -> usize
     at + MESSAGE
 }
 
+// What a view tells of a message's answer, with its reports in the room: its lines from `at` on.
+fn tell_answer(
+    view: View,
+    number: u64,
+    answer: Answer,
+    room: &[u8],
+    out: &mut [u8],
+    at: usize,
+) -> usize
+    requires { ⌜ (linesOf (answer .refusal) (answer .count) ≤ mostReports) × (at + longestAnswer ≤ length (now out)) ⌝ }
+    ensures { λ r. ⌜ TextPut (now (out .entry)) at (textOf view number (inRoom answer (now (room .entry)))) (now (out .exit)) r ⌝ }
+    ensures { λ r. ⌜ r ≤ length (now (out .exit)) ⌝ }
+{
+    match view {
+        View::Reports => answer_lines(out, at, number, answer.refusal, answer.count, room),
+        View::Book => {
+            let series = answer.series;
+            board_lines(out, at, number, series.book)
+        }
+    }
+}
+
 // One message: its lines from `used` on.
-fn tell_next(told: Told, held: &[u8], room: &mut [u8], out: &mut [u8]) -> Told
+fn tell_next(view: View, told: Told, held: &[u8], room: &mut [u8], out: &mut [u8]) -> Told
     requires { ⌜ (told .at ≤ length (now held)) × (told .number < mostMessages) ⌝ }
     requires { ⌜ (roomSize ≤ length (now room)) × (told .used + longestAnswer ≤ length (now out)) ⌝ }
-    ensures { λ r. ⌜ Turned (now (held .entry)) told (now (out .entry)) r (now (out .exit)) ⌝ }
+    ensures { λ r. ⌜ Turned view (now (held .entry)) told (now (out .entry)) r (now (out .exit)) ⌝ }
 {
     let answer = handle_at(told.series, held, told.at, room);
-    let used = answer_lines(
-        out,
-        told.used,
-        told.number,
-        answer.refusal,
-        answer.count,
-        room,
-    );
+    let used = tell_answer(view, told.number, answer, room, out, told.used);
     let series = answer.series;
     Told {
         series,
@@ -115,10 +141,18 @@ fn tell_next(told: Told, held: &[u8], room: &mut [u8], out: &mut [u8]) -> Told
     }
 }
 
-// Answers the messages that are held from the first byte on, each once and in order, as long as the buffer has room for the longest answer.
-pub fn tell_held(start: Series, number: u64, held: &[u8], ended: bool, out: &mut [u8]) -> Told
-    ensures { λ r. ⌜ r ≡ toldBy (heldTold start number (now (held .entry)) ended (length (now (out .entry)))) ⌝ }
-    ensures { λ _. ⌜ now (out .exit) ≡ sets (now (out .entry)) 0 (heldTold start number (now (held .entry)) ended (length (now (out .entry))) .text) ⌝ }
+// Answers the messages that are held from the first byte on, each once and in order, as long as the buffer has room for the longest answer,
+// and tells of each what the view tells.
+pub fn tell_held(
+    view: View,
+    start: Series,
+    number: u64,
+    held: &[u8],
+    ended: bool,
+    out: &mut [u8],
+) -> Told
+    ensures { λ r. ⌜ r ≡ toldBy (heldTold view start number (now (held .entry)) ended (length (now (out .entry)))) ⌝ }
+    ensures { λ _. ⌜ now (out .exit) ≡ sets (now (out .entry)) 0 (heldTold view start number (now (held .entry)) ended (length (now (out .entry))) .text) ⌝ }
     ensures { λ r. ⌜ (r .at ≤ length (now (held .entry))) × Counts (r .used) (now (out .exit)) ⌝ }
 {
     let mut room = [0u8; ROOM];
@@ -135,7 +169,7 @@ pub fn tell_held(start: Series, number: u64, held: &[u8], ended: bool, out: &mut
         told.used,
         told.number,
     ) {
-        told = tell_next(told, held, &mut room, out);
+        told = tell_next(view, told, held, &mut room, out);
     }
     told
 }

@@ -11,11 +11,11 @@ use Rattle.session.proofs.run.Statement.{statement}
 use Rattle.session.proofs.run.Tie as tie
 
 abbrev Inv-loop : tie.InvT-loop
-Inv-loop input₀ first count out₀ series₀ number₀ at₀ held₀ input out series number at held =
+Inv-loop view input₀ first count out₀ series₀ number₀ at₀ held₀ input out series number at held =
     (at ≤ held) × (held ≤ length input) × (length input ≡ length input₀) × (length out ≡ length out₀)
 
 abbrev μ-loop : tie.MeasureT-loop
-μ-loop input₀ first count out₀ series₀ number₀ at₀ held₀ input out series number at held = mostMessages - number
+μ-loop view input₀ first count out₀ series₀ number₀ at₀ held₀ input out series number at held = mostMessages - number
 
 loop-holds : tie.Need-loop-holds Inv-loop μ-loop
 loop-holds c = search needs
@@ -64,7 +64,7 @@ loop-less c =
     let l = at-loop .loop in
     let held = at-ready .ready .result in
     let some = ap (holdsNext (ltb held messageSize)) (sym (at-ready .ready .ensures .0 .1)) ∙ holds-some held (omega (arith, at-if1 .if1 .left)) in
-    let more = told-some (l .series) (l .number) (take held (at-ready .ready .last .0)) (ltb held messageSize) (length (l .out))
+    let more = told-some (start .args .view) (l .series) (l .number) (take held (at-ready .ready .last .0)) (ltb held messageSize) (length (l .out))
     (at-tell-held .tell-held .ensures .0) some (omega (arith, l .inv .3, start .pre .3)) (at-loop-test .loop-test .taken) in
     omega (arith, more .0, at-loop-test .loop-test .taken)
 

@@ -32,6 +32,12 @@ part-print-name-end c = search needs
 print-name-requires : tie.Need-print-name-requires Inv-loop μ-loop
 print-name-requires c κs = search needs
 
+view-at-requires : tie.Need-view-at-requires Inv-loop μ-loop
+view-at-requires c κs = search needs
+
+place-behind-requires : tie.Need-place-behind-requires Inv-loop μ-loop
+place-behind-requires c κs = search needs
+
 part-end-requires-2 : tie.Need-part-end-requires-2 Inv-loop μ-loop
 part-end-requires-2 c κs = search needs
 
@@ -75,6 +81,8 @@ play-all-spec =
     part-print-name-start
     part-print-name-end
     print-name-requires
+    view-at-requires
+    place-behind-requires
     part-end-requires-2
     part-start-requires-2
     sub-play

@@ -13,10 +13,10 @@ within : (run : List ℕ) (at : ℕ) {told : ℕ} → told ≤ length (take (len
 within run at h = omega (arith, length-take (length run - at) (drop at run))
 
 abbrev Inv-loop : tie.InvT-loop
-Inv-loop run first out₀ series₀ number₀ at₀ out series number at = (at ≤ length run) × (length out ≡ length out₀)
+Inv-loop view run first out₀ series₀ number₀ at₀ out series number at = (at ≤ length run) × (length out ≡ length out₀)
 
 abbrev μ-loop : tie.MeasureT-loop
-μ-loop run first out₀ series₀ number₀ at₀ out series number at = length run - at
+μ-loop view run first out₀ series₀ number₀ at₀ out series number at = length run - at
 
 loop-holds : tie.Need-loop-holds Inv-loop μ-loop
 loop-holds c = search needs

@@ -8,16 +8,16 @@ use Rattle.transcript.proofs.tell_held.Statement.{statement}
 use Rattle.transcript.proofs.tell_held.Tie as tie
 
 abbrev Inv-loop : tie.InvT-loop
-Inv-loop number held ended out₀ room₀ told₀ out room told = Underway (told₀ .series) number held ended out₀ told out × (length room ≡ roomSize)
+Inv-loop view number held ended out₀ room₀ told₀ out room told = Underway view (told₀ .series) number held ended out₀ told out × (length room ≡ roomSize)
 
 abbrev μ-loop : tie.MeasureT-loop
-μ-loop number held ended out₀ room₀ told₀ out room told = length held - told .at
+μ-loop view number held ended out₀ room₀ told₀ out room told = length held - told .at
 
 loop-holds : tie.Need-loop-holds Inv-loop μ-loop
 loop-holds c =
     let start : tie.Start Inv-loop μ-loop = search in
     let a = start .args in
-    (begins (a .start) (a .number) (a .held .now) (a .ended) (a .out .now), search needs)
+    (begins (a .view) (a .start) (a .number) (a .held .now) (a .ended) (a .out .now), search needs)
 
 sub-is-next : tie.Need-sub-is-next Inv-loop μ-loop
 sub-is-next c = search needs

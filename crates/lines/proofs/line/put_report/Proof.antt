@@ -1,79 +1,26 @@
-use Prim.Native.Nat.{_+_, _≤_}
-use mathlib.Core.List.{[], _∷_, _++_}
-use native.Mathlib.Omega.{arith}
-use lib.ListN.{length}
-use Rattle.packing.specs.Report.{fieldsOf}
-use Rattle.lines.specs.Decimal.{decimal}
-use Rattle.lines.specs.Lines.{spaced, reportLine}
-use Rattle.lines.specs.Buffer.{TextPut}
-use Rattle.lines.proofs.BufferLaws.{put-byte, put-then, put-length, room-behind}
-use Rattle.lines.proofs.LineLaws.{report-length}
+use Rattle.lines.specs.Lines.{reportLine}
 use borrow.Author.Needs.{needs}
 use Rattle.lines.proofs.line.put_report.Statement.{statement}
 use Rattle.lines.proofs.line.put_report.Tie as tie
 
--- the number and the fields
-told : (c : tie.After-slice-known3)
-    → let at-put-fields : tie.After-put-fields = search in
-    let start : tie.Start = search in
-    TextPut
-    (start .args .out .now)
-    (start .args .at)
-    (decimal (start .args .number) ++ spaced (fieldsOf (start .args .report)))
-    (at-put-fields .put-fields .last .0)
-    (at-put-fields .put-fields .result)
-told c =
-    let at-put-fields : tie.After-put-fields = search in
-    let at-put-number : tie.After-put-number = search in
-    let at-fields-of : tie.After-fields-of = search in
-    rw (← (at-fields-of .fields-of .ensures))
-    (put-then (at-put-number .put-number .ensures) (at-put-fields .put-fields .ensures))
-
-told-room : (c : tie.After-slice-known3)
-    → let at-put-fields : tie.After-put-fields = search in
-    at-put-fields .put-fields .result + 1 ≤ length (at-put-fields .put-fields .last .0)
-unfolding reportLine
-told-room c = let start : tie.Start = search in room-behind (10 ∷ []) (told c) (start .pre)
-
 fields-of-requires : tie.Need-fields-of-requires
 fields-of-requires c κs = search needs
 
-put-number-requires : tie.Need-put-number-requires
-put-number-requires c κs =
+put-line-requires : tie.Need-put-line-requires
+unfolding reportLine
+put-line-requires c κs =
     let start : tie.Start = search in
-    let a = start .args in
-    omega (arith, report-length (a .number) (a .report), start .pre)
-
-put-fields-requires : tie.Need-put-fields-requires
-put-fields-requires c κs =
-    let at-put-number : tie.After-put-number = search in
-    let at-fields-of : tie.After-fields-of = search in
-    let start : tie.Start = search in
-    let p = at-put-number .put-number .ensures in
-    rw (at-fields-of .fields-of .ensures)
-    (omega (arith, report-length (start .args .number) (start .args .report), start .pre, p .ends, put-length p))
-
-slice-write-out : tie.Need-slice-write-out
-slice-write-out c = omega (arith, told-room c)
-
-add-result : tie.Need-add-result
-add-result c = omega (arith, told-room c, put-length (told c))
+    rw (c .fields-of .ensures) (start .pre)
 
 same-length : tie.Need-same-length
-same-length c = put-length (put-then (told c) (put-byte _ _ 10))
+same-length c = search needs
 
 returns : tie.Need-returns
 unfolding reportLine
-returns c = put-then (told c) (put-byte _ _ 10)
+returns c =
+    let at-put-line : tie.After-put-line = search in
+    let at-fields-of : tie.After-fields-of = search in
+    rw (← (at-fields-of .fields-of .ensures)) (at-put-line .put-line .ensures)
 
 pub put-report-spec : {M : Type 1} → statement M
-put-report-spec =
-    tie.close
-    (tie.spec
-    fields-of-requires
-    put-number-requires
-    put-fields-requires
-    slice-write-out
-    add-result
-    same-length
-    returns)
+put-report-spec = tie.close (tie.spec fields-of-requires put-line-requires same-length returns)

@@ -3,8 +3,8 @@ use mathlib.Core.Path.{_≡_}
 use native.Mathlib.Omega.{arith}
 use Rattle.lines.specs.Buffer.{longestAnswer}
 use borrow.Author.Needs.{needs}
-use Rattle.session.proofs.main.Statement.{statement}
-use Rattle.session.proofs.main.Tie as tie
+use Rattle.session.proofs.begin.Statement.{statement}
+use Rattle.session.proofs.begin.Tie as tie
 
 -- a long array's length is cited, and not computed
 enough : {n m : ℕ} → n ≡ m → longestAnswer ≤ n → longestAnswer ≤ m
@@ -22,5 +22,5 @@ play-requires c κs = (search needs, enough (slice-aggregate-play-2 c) (omega ar
 returns : tie.Need-returns
 returns c = search needs
 
-pub main-spec : {M : Type 1} → statement M
-main-spec = tie.close (tie.spec slice-aggregate-play slice-aggregate-play-2 play-requires returns)
+pub begin-spec : {M : Type 1} → statement M
+begin-spec = tie.close (tie.spec slice-aggregate-play slice-aggregate-play-2 play-requires returns)
