@@ -5,7 +5,7 @@ use mathlib.Core.Bool.{Bool, cond, not, _&&_, _||_, Bool·beq}
 use mathlib.Core.List.{List, [], _∷_, _++_}
 use lib.Dec.{eqb, ltb}
 use lib.ListN.{length}
-use Rattle.lists.specs.Choose.{scan}
+use Rattle.lists.specs.Choose.{scan, counting}
 use Rattle.book.specs.declared.Book.{Book}
 use Rattle.book.specs.declared.Entry.{Entry}
 use Rattle.book.specs.Entries.{display}
@@ -24,13 +24,13 @@ turn e = priority (not (e .sell)) e
 unfoldable pub before : Bool → Entry → Entry → Bool
 before older f e = Bool·beq (f .sell) (e .sell) && (ltb (turn f) (turn e) || (older && eqb (turn f) (turn e)))
 
--- one more is met, at rank j: it counts if it trades before the entry e of rank i
-abbrev pub counted : ℕ → Entry → ℕ → ℕ → Entry → ℕ
-counted i e n j f = cond (before (ltb j i) f e) (n + 1) n
+-- the same of an entry f of rank j and the entry e of rank i
+abbrev pub beforeAt : ℕ → Entry → ℕ → Entry → Bool
+beforeAt i e j f = before (ltb j i) f e
 
 -- THE PLACE of the entry e of rank i: how many on its side trade before it
 unfoldable pub placeOf : List Entry → ℕ → Entry → ℕ
-placeOf l i e = scan (counted i e) 0 0 l
+placeOf l i e = scan (counting (beforeAt i e)) 0 0 l
 
 -- ---- lines ----
 

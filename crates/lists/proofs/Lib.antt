@@ -4,4 +4,5 @@ pub mod TestLaws
 pub mod FirstLaws
 pub mod ChooseLaws
 pub mod LoopLaws
+pub mod CountLaws
 pub mod RunLaws

@@ -10,6 +10,10 @@ unfoldable pub scan : {A S : Type 0} → (S → ℕ → A → S) → S → ℕ �
 scan turn s i [] = s
 scan turn s i (x ∷ l) = scan turn (turn s i x) (i + 1) l
 
+-- one more is met: it counts if it passes, by a test that knows the place
+abbrev pub counting : {A : Type 0} → (ℕ → A → Bool) → ℕ → ℕ → A → ℕ
+counting test n i x = cond (test i x) (n + 1) n
+
 -- what a search has found: an element with its place, or nothing
 pub data Found (A : Type 0) : Type 0 where
   nowhere : Found A

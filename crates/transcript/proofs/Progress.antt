@@ -39,14 +39,16 @@ pub record Onward (held : List ℕ) (t u : Telling) : Type 0 where
   pub within : u .at ≤ length held
   pub paced : u .number + t .at ≤ t .number + u .at
 
-pub onward : (view : View) (turns : ℕ) (ended : Bool) (held : List ℕ) (size : ℕ) (t : Telling) → t .at ≤ length held → Onward held t (tellOn view turns ended held size t)
+pub onward : (view : View) (turns : ℕ) (ended : Bool) (held : List ℕ) (size : ℕ) (t : Telling) → t .at ≤ length held
+    → Onward held t (tellOn view turns ended held size t)
 unfolding tellOn
 onward view zero ended held size t h = record { number = omega arith; at = omega arith; within = h; paced = omega arith }
 onward view (suc turns) ended held size t h =
     by (goesOn ended (length held - t .at) size (length (t .text)) (t .number)) refl (onward view turns ended held size (next view held t) (omega arith))
   where
     by : (b : Bool) → goesOn ended (length held - t .at) size (length (t .text)) (t .number) ≡ b
-        → Onward held (next view held t) (tellOn view turns ended held size (next view held t)) → Onward held t (cond b (tellOn view turns ended held size (next view held t)) t)
+        → Onward held (next view held t) (tellOn view turns ended held size (next view held t))
+        → Onward held t (cond b (tellOn view turns ended held size (next view held t)) t)
     by true e o =
         let some = goes-on ended (length held - t .at) size (length (t .text)) (t .number) e .some in
         record { number = omega (arith, o .number); at = omega (arith, o .at); within = o .within; paced = omega (arith, o .paced, some) }
@@ -82,10 +84,12 @@ tells-some view s number held ended size h space few = by (length held) refl
 pub tells-within : (view : View) (s : Series) (number : ℕ) (held : List ℕ) (ended : Bool) (size : ℕ)
     → Onward held (record { series = s; number = number; at = 0; text = [] }) (heldTold view s number held ended size)
 unfolding heldTold
-tells-within view s number held ended size = onward view (length held) ended held size (record { series = s; number = number; at = 0; text = [] }) (omega arith)
+tells-within view s number held ended size =
+    onward view (length held) ended held size (record { series = s; number = number; at = 0; text = [] }) (omega arith)
 
 -- the same of what `tell_held` answers
-pub told-some : (view : View) (s : Series) (number : ℕ) (held : List ℕ) (ended : Bool) (size : ℕ) {r : Told} → r ≡ toldBy (heldTold view s number held ended size)
+pub told-some : (view : View) (s : Series) (number : ℕ) (held : List ℕ) (ended : Bool) (size : ℕ) {r : Told}
+    → r ≡ toldBy (heldTold view s number held ended size)
     → holdsNext ended (length held) ≡ true → longestAnswer ≤ size → number < mostMessages → (number < r .number) × (1 ≤ r .at)
 told-some view s number held ended size {r} e h space few =
     let t = tells-some view s number held ended size h space few in

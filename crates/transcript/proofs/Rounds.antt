@@ -167,7 +167,8 @@ transcript-parts {view} {s} {number} (round held more ended size whole later) =
 -- (11 bytes for each of 10^18 messages are more than there is)
 abbrev Reached : View → ℕ → Type 0
 Reached view turns =
-    (s : Series) (number : ℕ) (bytes : List ℕ) → length bytes ≤ turns → number + length bytes ≤ mostMessages → Rounds view s number bytes (linesFrom view number s bytes)
+    (s : Series) (number : ℕ) (bytes : List ℕ) → length bytes ≤ turns → number + length bytes ≤ mostMessages
+    → Rounds view s number bytes (linesFrom view number s bytes)
 
 module _ (view : View) (size : ℕ) (space : longestAnswer ≤ size) where
   none-left : Reached view 0
@@ -194,7 +195,8 @@ module _ (view : View) (size : ℕ) (space : longestAnswer ≤ size) where
   reach zero = none-left
   reach (suc turns) = one-more turns (reach turns)
 
-  pub rounds-reach : (s : Series) (number : ℕ) (bytes : List ℕ) → number + length bytes ≤ mostMessages → Rounds view s number bytes (linesFrom view number s bytes)
+  pub rounds-reach : (s : Series) (number : ℕ) (bytes : List ℕ) → number + length bytes ≤ mostMessages
+      → Rounds view s number bytes (linesFrom view number s bytes)
   rounds-reach s number bytes few = reach (length bytes) s number bytes (omega arith) few
 
 -- what stands in front of what is held is what stands in front of the input
@@ -233,7 +235,8 @@ setup-same held more whole = ap (unpackOf setups) (sym (front-held setupSize hel
 -- THEOREM. WHAT IT PRINTS OVER ALL ITS ROUNDS IS THE TRANSCRIPT of its input
 pub session-prints : {view : View} {input text : List ℕ} → Session view input text → transcript view input ≡ text
 unfolding transcript
-session-prints {view} (refused held more whole u) = ap (λ (o : Option Setup). printedFor view o (drop setupSize (held ++ more))) (setup-same held more whole ∙ u)
+session-prints {view} (refused held more whole u) =
+    ap (λ (o : Option Setup). printedFor view o (drop setupSize (held ++ more))) (setup-same held more whole ∙ u)
 session-prints {view} (played held more setup whole u later) =
     ap (λ (o : Option Setup). printedFor view o (drop setupSize (held ++ more))) (setup-same held more whole ∙ u)
     ∙ ap (linesFrom view 1 (newSeries setup)) (behind-front setupSize held more whole)

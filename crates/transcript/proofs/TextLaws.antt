@@ -98,6 +98,13 @@ short-refused number s message sound h =
     let e = handled-length s message (replicate roomSize 0) zeros-large sound h in
     ap (textOf Reports number) e ∙ text-refused number (refused nothing s (replicate roomSize 0)) (λ z. omega (arith, z))
 
+-- A REFUSED MESSAGE LEAVES THE BOOK TO BE SEEN as it stood
+pub refused-shows : (number : ℕ) (s : Series) (message : List ℕ) → (answered s message .answer .refusal ≡ 0 → ⊥)
+    → textOf Book number (answered s message) ≡ boardText number (entriesOf (s .book))
+unfolding answered
+refused-shows number s message h =
+    ap (λ (t : Series). boardText number (entriesOf (t .book))) (refusals-keep s message (replicate roomSize 0) h .series)
+
 -- and the series stays sound from message to message
 pub answered-sound : (s : Series) (message : List ℕ) → soundSeries s ≡ true → soundSeries (answered s message .answer .series) ≡ true
 unfolding answered

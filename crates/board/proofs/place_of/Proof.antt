@@ -2,15 +2,16 @@ use Prim.Native.Nat.{_-_, _≤_}
 use mathlib.Core.Path.{_≡_}
 use native.Mathlib.Omega.{arith}
 use lib.ListN.{length}
+use Rattle.lists.specs.Choose.{counting}
 use Rattle.lists.proofs.LoopLaws.{Scanning, scan-start, scan-turn, scan-done}
 use Rattle.book.specs.Shape.{zeroEntry}
-use Rattle.board.specs.Board.{counted, placeOf}
+use Rattle.board.specs.Board.{beforeAt, placeOf}
 use borrow.Author.Needs.{needs}
 use Rattle.board.proofs.place_of.Statement.{statement}
 use Rattle.board.proofs.place_of.Tie as tie
 
 abbrev Inv-loop : tie.InvT-loop
-Inv-loop n i b e place₀ j₀ place j = Scanning (counted i e) 0 (b .entries) n place j × (place ≤ j)
+Inv-loop n i b e place₀ j₀ place j = Scanning (counting (beforeAt i e)) 0 (b .entries) n place j × (place ≤ j)
 
 abbrev μ-loop : tie.MeasureT-loop
 μ-loop n i b e place₀ j₀ place j = n - j

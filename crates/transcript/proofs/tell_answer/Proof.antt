@@ -42,7 +42,9 @@ returns-2 c =
     let at-enum-told2 : tie.After-enum-told2 = search in
     let start : tie.Start = search in
     let printed = at-board-lines .board-lines .ensures in (
-      rw (at-enum-told2 .enum-told2 .given .1) (printed-within (length (entriesOf (start .args .answer .series .book))) (omega (arith, printed .1 .1 .1)) (start .pre .1) (printed .0) (printed .1 .0)),
+      rw (at-enum-told2 .enum-told2 .given .1)
+          (printed-within (length (entriesOf (start .args .answer .series .book))) (omega (arith, printed .1 .1 .1)) (start .pre .1) (printed .0)
+          (printed .1 .0)),
       printed .1 .1 .0 .0,
     )
 
