@@ -1,10 +1,10 @@
 #!/usr/bin/env python3
 """A plain model of document 01: one option series on one exchange.
 
-    python3 tests/model.py [--no-checks] [FILE]
+    python3 tests/model.py [--no-checks] [--book] [FILE]
 
 prints what the session program must print for FILE (standard input without
-FILE).  The model is written from document 01 alone and is meant to be read
+FILE); with --book the book after each message (shown_book.py).  The model is written from document 01 alone and is meant to be read
 beside it.  It favours the document's own words over speed.
 
 The document words its rules for a buy and calls a sell the mirror image.  Here
@@ -18,6 +18,7 @@ import sys
 
 from entries import Entry, least, less, report, seen
 from packed import *
+from shown_book import book_lines
 from soundness import promises_kept, unsound
 
 
@@ -350,15 +351,20 @@ def open_series(data):
     return None if setup is None else Series(*setup)
 
 
-def session(data):
-    """Every line the session program prints for these bytes."""
+def session(data, book=False):
+    """Every line the session program prints for these bytes; or, for each message, the book."""
     series = open_series(data[:4])
     if series is None:
         return ["0 refused 1"]
     lines = []
     for number, message in enumerate(messages_of(data), 1):
-        lines += message_lines(number, *series.handle(message))
+        refusal, reports = series.handle(message)
+        lines += book_lines(number, series.book) if book else message_lines(number, refusal, reports)
     return lines
+
+
+def books(data):
+    return session(data, book=True)
 
 
 def message_lines(number, refusal, reports):
@@ -368,17 +374,16 @@ def message_lines(number, refusal, reports):
 
 
 def main(arguments):
-    if "--no-checks" in arguments:
-        arguments.remove("--no-checks")
-        Series.checks = False
-    if len(arguments) > 1:
-        sys.exit("usage: model.py [--no-checks] [FILE]")
-    if arguments:
-        with open(arguments[0], "rb") as file:
+    Series.checks = "--no-checks" not in arguments
+    paths = [word for word in arguments if word not in ("--no-checks", "--book")]
+    if len(paths) > 1 or paths and paths[0].startswith("--"):
+        sys.exit("usage: model.py [--no-checks] [--book] [FILE]")
+    if paths:
+        with open(paths[0], "rb") as file:
             data = file.read()
     else:
         data = sys.stdin.buffer.read()
-    for line in session(data):
+    for line in books(data) if "--book" in arguments else session(data):
         print(line)
 
 
