@@ -2,10 +2,13 @@
 """Runs a program under test beside the model and stops at the first difference.
 
     python3 tests/compare.py [--sessions N] [--messages M] [--seed S] [--seconds T]
-                             [--lessons DIR]... [--keep FILE] PROGRAM [ARGS..]
+                             [--lessons DIR]... [--keep FILE] [--view reports|book]
+                             PROGRAM [ARGS..]
 
-PROGRAM reads a session on standard input and prints its lines.  First come the
-lessons: every DIR/NAME.bin must give NAME.out, from the model too.  Then N
+PROGRAM reads a session on standard input and prints its lines: in view reports (the
+default) those of its reports, in view book those of the book after each message.  First
+come the lessons: every DIR/NAME.bin must give NAME.out, from the model too; of the book
+there is no such file, and the model alone says what must be printed.  Then N
 generated sessions of M messages, in all flavours by turns.  After T seconds no
 new session is begun; a program that takes 30 seconds over one session is stopped
 and counts as differing.
@@ -24,7 +27,8 @@ import sys
 import time
 
 from generate import FLAVOURS, generate
-from model import Series, session
+from model import Series, books, session
+from shown_book import book_words, field_words
 from words import message_words, messages_of, report_words, setup_words
 
 
@@ -40,8 +44,9 @@ class TimeUp(Exception):
 
 
 class Comparison:
-    def __init__(self, command, seconds, keep):
-        self.command, self.keep = command, keep
+    def __init__(self, command, seconds, keep, view="reports"):
+        self.command, self.keep, self.view = command, keep, view
+        self.lines_of = books if view == "book" else session    # what the model says
         self.deadline = time.monotonic() + seconds
         self.sessions = self.messages = 0
 
@@ -71,7 +76,7 @@ class Comparison:
         if lines != expected:
             with open(self.keep, "wb") as file:
                 file.write(data)
-            raise Difference(describe(name, data, expected, lines, program)
+            raise Difference(describe(name, data, expected, lines, program, self.view)
                              + "\nThe session's bytes are in %s." % self.keep)
 
     def agreed(self, data):
@@ -81,40 +86,61 @@ class Comparison:
     def lesson(self, path):
         with open(path, "rb") as file:
             data = file.read()
-        with open(path[:-len(".bin")] + ".out") as file:
-            expected = file.read().split("\n")[:-1]
+        expected = self.lines_of(data)
         name = "lesson " + os.path.basename(path)[:-len(".bin")]
-        self.judge(name, data, expected, "the model", session(data))
+        if self.view == "reports":
+            with open(path[:-len(".bin")] + ".out") as file:
+                recorded = file.read().split("\n")[:-1]
+            self.judge(name, data, recorded, "the model", expected)
         self.judge(name, data, expected)
         self.agreed(data)
 
     def generated(self, seed, messages, flavour):
         data = generate(seed, messages, flavour)
-        self.judge("generate.py %s %s %s" % (seed, messages, flavour), data, session(data))
+        self.judge("generate.py %s %s %s" % (seed, messages, flavour), data, self.lines_of(data))
         self.agreed(data)
 
 
-def describe(name, data, expected, lines, program):
+def message_of(line):
+    """The message that a line is of; None if the line does not say."""
+    word = (line.split() or [""])[0]
+    return int(word) if word.isascii() and word.isdigit() else None
+
+
+def near(side, place, number, view):
+    """Which lines are shown beside line `place`: some round it, or the whole book of a message."""
+    if view == "book":
+        return [at for at, line in enumerate(side) if at == place or message_of(line) == number]
+    return range(max(0, place - 4), min(len(side), place + 5))
+
+
+def told(title, side, place, number, view):
+    """One output round the first difference, each line with what it says."""
+    words, text = book_words if view == "book" else report_words, [title]
+    for at in near(side, place, number, view):
+        text.append("  %s %-44s %s" % (">" if at == place else " ", side[at], words(side[at])))
+    if place >= len(side):
+        text.append("  > (no more lines)")
+    return text
+
+
+def describe(name, data, expected, lines, program, view="reports"):
     """The first difference, in words."""
     place = 0
     while place < min(len(expected), len(lines)) and expected[place] == lines[place]:
         place += 1
-    numbers = [int(side[place].split()[0]) for side in (expected, lines)
-               if place < len(side) and side[place].split()[0:1] and side[place].split()[0].isdigit()]
-    number = min(numbers) if numbers else 0
+    differing = [side[place] for side in (expected, lines) if place < len(side)]
+    number = min([n for n in map(message_of, differing) if n is not None], default=0)
     messages = messages_of(data)
     text = ["DIFFERENCE in %s" % name, "setup: %s" % setup_words(data[:4])]
     for earlier in range(max(1, number - 5), number + 1):
         if earlier <= len(messages):
             text.append("message %d: %s" % (earlier, message_words(messages[earlier - 1])))
-    text.append("output line %d, of message %d, differs" % (place + 1, number))
+    fields = field_words(*differing) if view == "book" and len(differing) == 2 else ""
+    text.append("output line %d, of message %d, differs%s"
+                % (place + 1, number, ": " + fields if fields else ""))
     for title, side in (("expected:", expected), (program + ":", lines)):
-        text.append(title)
-        for at in range(max(0, place - 4), min(len(side), place + 5)):
-            text.append("  %s %-44s %s" % (">" if at == place else " ", side[at],
-                                           report_words(side[at])))
-        if place >= len(side):
-            text.append("  > (no more lines)")
+        text += told(title, side, place, number, view)
     return "\n".join(text)
 
 
@@ -126,6 +152,7 @@ def main():
     parser.add_argument("--seconds", type=float, default=180)
     parser.add_argument("--lessons", action="append", default=[], metavar="DIR")
     parser.add_argument("--keep", default="difference.bin", metavar="FILE")
+    parser.add_argument("--view", choices=("reports", "book"), default="reports")
     parser.add_argument("--no-checks", action="store_true", help="skip the model's own assertions")
     parser.add_argument("command", nargs=argparse.REMAINDER, metavar="PROGRAM [ARGS..]")
     options = parser.parse_args()
@@ -137,7 +164,7 @@ def main():
     if options.lessons and not paths:
         parser.error("no lessons in " + " ".join(options.lessons))
 
-    comparison = Comparison(options.command, options.seconds, options.keep)
+    comparison = Comparison(options.command, options.seconds, options.keep, options.view)
     flavours, note, good = list(FLAVOURS), "", True
     try:
         for path in paths:
@@ -152,9 +179,9 @@ def main():
         print(difference)
         good = False
     lessons = min(comparison.sessions, len(paths))
-    print("%s: %d lessons and %d generated sessions, %d messages, agree%s"
+    print("%s: %d lessons and %d generated sessions, %d messages, agree%s%s"
           % ("agreed" if good else "NOT agreed", lessons, comparison.sessions - lessons,
-             comparison.messages, note))
+             comparison.messages, " in the book" if options.view == "book" else "", note))
     sys.exit(0 if good else 1)
 
 
