@@ -1,37 +1,62 @@
 #!/usr/bin/env python3
 """Makes the bundle of the crate `test_lessons`: every lesson of tests/lessons and of
-tests/recorded, and what must be printed for it.
+tests/recorded in its reports, then every lesson of tests/lessons in the books it leaves,
+and what must be printed for each.
 
     python3 tests/bundle.py           writes crates/test_lessons/stdin and stdout
     python3 tests/bundle.py --check   only says whether they are up to date
 
-Of each lesson the bundle has the length of its name and the name, the length of
-its bytes and the bytes; a length is four bytes, most significant first.  What must
-be printed is `== NAME` and then the lesson's .out file, which no program of this
-project has written: see tests/README.md.
+Of each lesson the bundle has the length of its name and the name, one byte for the view
+(0 reports, 1 book), the length of its bytes and the bytes; a length is four bytes, most
+significant first.  What must be printed is `== ` and the name, and below it in view 0 the
+lesson's .out file, which no program of this project has written (see tests/README.md), and in
+view 1 what the independent model says of the book after each message.  The name of a lesson in
+view 1 ends in `, the book`.
 """
 
 import glob
 import os
+import sys
 
+from model import books
 from tables import keep
 
 HERE = os.path.dirname(os.path.abspath(__file__))
+REPORTS, BOOK = 0, 1
+MOST = 262_144          # bytes that the program reads
 
 
 def part(data):
     return len(data).to_bytes(4, "big") + data
 
 
+def read(path):
+    with open(path, "rb") as file:
+        return file.read()
+
+
+def lessons_of(folder):
+    """Name and bytes of each lesson, and what it must print in its reports."""
+    for path in sorted(glob.glob(os.path.join(HERE, folder, "*.bin"))):
+        yield folder + "/" + os.path.basename(path)[:-4], read(path), read(path[:-4] + ".out")
+
+
+def parts():
+    """(name, view, bytes, what must be printed) of each part of the bundle."""
+    for folder in ("lessons", "recorded"):
+        for name, data, out in lessons_of(folder):
+            yield name, REPORTS, data, out
+    for name, data, _ in lessons_of("lessons"):
+        yield name + ", the book", BOOK, data, "".join(line + "\n" for line in books(data)).encode()
+
+
 def bundled():
     stdin, stdout = bytearray(), bytearray()
-    for folder in ("lessons", "recorded"):
-        for path in sorted(glob.glob(os.path.join(HERE, folder, "*.bin"))):
-            name = folder + "/" + os.path.basename(path)[:-4]
-            with open(path, "rb") as file:
-                stdin += part(name.encode()) + part(file.read())
-            with open(path[:-4] + ".out", "rb") as file:
-                stdout += b"== " + name.encode() + b"\n" + file.read()
+    for name, view, data, out in parts():
+        stdin += part(name.encode()) + bytes([view]) + part(data)
+        stdout += b"== " + name.encode() + b"\n" + out
+    if len(stdin) >= MOST:
+        sys.exit("bundle: %d bytes, of which the program reads %d" % (len(stdin), MOST))
     return {"stdin": bytes(stdin), "stdout": bytes(stdout)}
 
 
