@@ -33,7 +33,7 @@
  *               3 traded: side, party and entry of the taker, other entry (the one that rested), price, quantity traded
  *               4 rested, 5 repriced: side, party, entry, price (display, 0 if dark), second price (working), quantity left
  *               6 cancelled: reason, side, party, entry, price (limit), quantity cancelled
- *               README.md says what each reason, 20 to 31, means
+ *               docs/TEACHER.md says what each reason, 20 to 31, means
  *
  * A series is its state buffer and nothing else: it can be copied, moved, stored and gone on with elsewhere. Its bytes have no version and no
  * checksum, and do not count the messages: keep these beside it. Refusal 11 finds bytes that no series can have, not one series damaged into
