@@ -4,6 +4,7 @@ Aiming knows the series being played (self.series), the generator's random
 numbers (self.rng), its flavour, and a band of prices round an anchor.
 """
 
+import tools
 from model import seen
 from packed import *
 

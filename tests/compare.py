@@ -19,6 +19,7 @@ sessions and messages agreed.  The exit status is 0 only if every session begun
 agreed, every lesson was run and, if N is not 0, at least one session was.
 """
 
+import tools
 import argparse
 import glob
 import os

@@ -8,6 +8,7 @@ message kind, report kind, reason and refusal, each kind of settling step and a
 few rare circumstances occur.  The last line names what never occurred.
 """
 
+import tools
 import sys
 import time
 from collections import Counter

@@ -1,5 +1,6 @@
 """Small words the model is written in: the mirror, binding prices, entries, reports."""
 
+import tools
 from packed import *
 
 

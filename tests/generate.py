@@ -10,6 +10,7 @@ matter just now: best prices, away prices, displays, the limits of K and of the
 protections, all give or take an MPV.
 """
 
+import tools
 import random
 import sys
 

@@ -8,6 +8,7 @@ What must be printed comes from the independent model (model.py, soundness.py), 
 sound. The states are sound and not settled, or unsound by each clause; rooms are too small by one byte and by all; entry numbers are used up.
 """
 
+import tools
 import copy
 import random
 from collections import Counter, defaultdict

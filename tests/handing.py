@@ -3,6 +3,7 @@
 From it the bytes, the model's series and the lines of the program `test_handed_in`; and from a model's series the state again.
 """
 
+import tools
 import struct
 
 from entries import Entry

@@ -7,6 +7,7 @@ that `words` says what the lines say.
 Exit status 1, with a line for each case that failed, if any did.
 """
 
+import tools
 import contextlib
 import glob
 import io
@@ -185,7 +186,7 @@ def try_closed_pipes():
         reading, writing = os.pipe()
         os.close(reading)
         with open(path + ".out") as lines:
-            done = subprocess.run([sys.executable, os.path.join(HERE, "lesson.py")] + command,
+            done = subprocess.run([sys.executable, os.path.join(HERE, "..", "teach", "lesson.py")] + command,
                                   stdin=lines, stdout=writing, stderr=subprocess.PIPE)
         os.close(writing)
         expect(command[0] + " to a reader that is gone", done.stderr, b"")

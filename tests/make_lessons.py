@@ -12,6 +12,7 @@ A lesson is written only if the model agrees with every line.
 The long lessons stand below, as programs.  Their output is the model's.
 """
 
+import tools
 import glob
 import os
 import sys

@@ -14,6 +14,7 @@ rule is written once, for a buy.  Only rules that differ between the sides, or
 name a fixed price, are spelled out as a pair.
 """
 
+import tools
 import sys
 
 from entries import Entry, least, less, report, seen

@@ -3,6 +3,7 @@
 Both answer with a word for the first thing wrong, "" when nothing is.
 """
 
+import tools
 from packed import *
 
 

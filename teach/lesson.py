@@ -1,9 +1,9 @@
 #!/usr/bin/env python3
 """A lesson in words.
 
-    python3 tests/lesson.py make FILE.txt OUT.bin  a lesson of one's own: one setup, then a message a line
-    python3 tests/lesson.py show FILE.bin          its setup and messages, numbered, in words; `make` takes them
-    python3 tests/lesson.py words [FILE.bin]       lines as `run` prints them, each with what happened beside it;
+    python3 teach/lesson.py make FILE.txt OUT.bin  a lesson of one's own: one setup, then a message a line
+    python3 teach/lesson.py show FILE.bin          its setup and messages, numbered, in words; `make` takes them
+    python3 teach/lesson.py words [FILE.bin]       lines as `run` prints them, each with what happened beside it;
                                                    with FILE, the lesson, it says which kind each entry is
 
 The words, with prices in cents:
@@ -24,7 +24,7 @@ that a line begins with. tests/lesson_sources/*.txt has many lessons to copy fro
 with its reports below it. Where a line is wrong, FILE:LINE says how, the status is 2 and nothing is written.
 
     ./waxglimmer run OUT.bin                                           plays it
-    ./waxglimmer run OUT.bin | python3 tests/lesson.py words OUT.bin   plays it, and says what happened
+    ./waxglimmer run OUT.bin | python3 teach/lesson.py words OUT.bin   plays it, and says what happened
     python3 tests/model.py OUT.bin                                     what the independent model prints for it
 """
 

@@ -1,4 +1,4 @@
-"""Reads lessons in words, as tests/lesson.py and tests/make_lessons.py have them.
+"""Reads lessons in words, as teach/lesson.py and tests/make_lessons.py have them.
 
 A lesson is one setup and then a message a line, in the words of words.py.  An indented line is a
 report that the message above it must give.  Where a file has more than one lesson, `lesson NAME`
