@@ -1,12 +1,14 @@
 #!/usr/bin/env python3
-"""A lesson in words.
+"""What ./waxglimmer does with a lesson, and with what the session program prints for it.
 
-    python3 teach/lesson.py make FILE.txt OUT.bin  a lesson of one's own: one setup, then a message a line
-    python3 teach/lesson.py show FILE.bin          its setup and messages, numbered, in words; `make` takes them
-    python3 teach/lesson.py words [FILE.bin]       lines as `run` prints them, each with what happened beside it;
-                                                   with FILE, the lesson, it says which kind each entry is
+    lesson.py make NAME GIVEN LESSON     records the lesson in words of file GIVEN; a mistake names it NAME
+    lesson.py record NAME GIVEN LESSON   the same; a lesson that is recorded already stays as it is
+    lesson.py show LESSON                its setup and messages, numbered, in words; `make` takes them
+    lesson.py tell LESSON LINES          the lines that were printed for it, each with what happened beside it
+    lesson.py book LESSON LINES BOOK     the book after each message, drawn of the lines of the view `book`
+    lesson.py book-lines BOOK            the same lines, in the order of the drawing
 
-The words, with prices in cents:
+LESSON is a recorded lesson.  The words, with prices in cents:
 
     setup call exempt M 1 K 10 strike 200     or put; or tested, where 25 and 26 are asked
     open                                      or close, or halt
@@ -20,27 +22,45 @@ The words, with prices in cents:
 
 A number need only fit its field, so that what is refused can be tried too. Lines that begin with # are
 remarks; an indented line says in words a report of the message above it, and is passed over; so is a number
-that a line begins with. tests/lesson_sources/*.txt has many lessons to copy from, one by one, each message
-with its reports below it. Where a line is wrong, FILE:LINE says how, the status is 2 and nothing is written.
-
-    ./waxglimmer run OUT.bin                                           plays it
-    ./waxglimmer run OUT.bin | python3 teach/lesson.py words OUT.bin   plays it, and says what happened
-    python3 tests/model.py OUT.bin                                     what the independent model prints for it
+that a line begins with. Where a line is wrong, NAME:LINE says how, the status is 1 and nothing is written.
 """
 
 import os
 import signal
 import sys
 
+from board import drawn, in_drawn_order
 from packed import messages_of
 from sentences import Teller
-from source import read_one
+from source import is_recorded, one_lesson
 from words import Mistake, message_words, setup_words
 
 
 def read(path):
     with open(path, "rb") as file:
         return file.read()
+
+
+def lines_of(path):
+    """The lines of a file that a program has printed."""
+    return read(path).decode("ascii", "backslashreplace").splitlines()
+
+
+def write(path, data):
+    with open(path, "wb") as file:
+        file.write(data)
+
+
+def make(name, given, path):
+    data = read(given)
+    if len(data) >= 4 and is_recorded(data):        # what is shorter is no lesson of either sort: the words say why
+        raise Mistake("%s: a lesson that is recorded already; expected: one in words" % name)
+    write(path, one_lesson(data, name).data)
+
+
+def record(name, given, path):
+    data = read(given)
+    write(path, data if is_recorded(data) else one_lesson(data, name).data)
 
 
 def show(path):
@@ -50,48 +70,61 @@ def show(path):
         print(number, message_words(message))
 
 
-def make(path, out):
-    data = read_one(path).data
-    if os.path.exists(out) and os.path.samefile(path, out):
-        raise Mistake("%s: the words and the lesson are one file; expected: two" % path)
-    with open(out, "wb") as file:
-        file.write(data)
-
-
-def words(path=None):
-    teller = Teller(None if path is None else messages_of(read(path)))
-    for number, line in enumerate(sys.stdin, 1):
+def tell(path, printed):
+    teller = Teller(messages_of(read(path)))
+    for number, line in enumerate(lines_of(printed), 1):
         try:
-            print("%-34s  %s" % (line.rstrip("\n"), teller.sentence(line)), flush=True)
+            print("%-34s  %s" % (line, teller.sentence(line)))
         except Mistake as mistake:
             raise Mistake("line %d: %s" % (number, mistake)) from None
 
 
-COMMANDS = {("make", 2): make, ("show", 1): show, ("words", 0): words, ("words", 1): words}
+def book(path, printed, resting):
+    for line in drawn(read(path), lines_of(printed), lines_of(resting)):
+        print(line)
+
+
+def book_lines(resting):
+    for line in in_drawn_order(lines_of(resting)):
+        print(line)
+
+
+COMMANDS = {("make", 3): make, ("record", 3): record, ("show", 1): show, ("tell", 2): tell,
+            ("book", 3): book, ("book-lines", 1): book_lines}
 
 
 def main(arguments):
-    """The exit status of a command; 2 where it could not be done, with a word that says why."""
+    """The exit status of a command; 1 where it could not be done, with a line that says why."""
     if arguments in ([], ["--help"]):
         print(__doc__.strip())
         return 0
     command = COMMANDS.get((arguments[0], len(arguments) - 1))
     if command is None:
         print(__doc__.strip(), file=sys.stderr)
-        return 2
+        return 1
     try:
         command(*arguments[1:])
         sys.stdout.flush()
     except Mistake as mistake:
         print(mistake, file=sys.stderr)
-        return 2
+        return 1
     except OSError as error:
-        print("%s: %s" % (error.filename or "lesson.py", error.strerror), file=sys.stderr)
-        return 2
+        print("waxglimmer: %s: %s" % (error.filename or "standard output", error.strerror), file=sys.stderr)
+        return 1
     return 0
+
+
+def leave(status):
+    """Ends the program; what could not be written is not tried again, so that nothing more is said of it."""
+    try:
+        sys.stdout.flush()
+    except OSError:
+        os.dup2(os.open(os.devnull, os.O_WRONLY), sys.stdout.fileno())
+    sys.exit(status)
 
 
 if __name__ == "__main__":
     signal.signal(signal.SIGPIPE, signal.SIG_DFL)       # a reader that has seen enough ends this quietly
-    sys.stdin.reconfigure(errors="backslashreplace")
-    sys.exit(main(sys.argv[1:]))
+    signal.signal(signal.SIGINT, signal.SIG_DFL)        # and so does Ctrl-C
+    sys.stdout.reconfigure(errors="backslashreplace")
+    leave(main(sys.argv[1:]))

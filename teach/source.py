@@ -1,15 +1,28 @@
-"""Reads lessons in words, as teach/lesson.py and tests/make_lessons.py have them.
+"""Reads lessons in words, as teach/lesson.py and tests/make_lessons.py have them, and tells them from recorded ones.
 
 A lesson is one setup and then a message a line, in the words of words.py.  An indented line is a
 report that the message above it must give.  Where a file has more than one lesson, `lesson NAME`
 begins each.  Lines that begin with # are remarks.  A line may begin with its number, as
-`lesson.py show` prints it; the number is passed over.
+`./waxglimmer show` prints it; the number is passed over.
 """
+
+import io
 
 from packed import messages_of
 from words import SETUP, Mistake, message_bytes, quoted, report_line, setup_bytes
 
 BEGIN = "expected first: setup " + SETUP
+UTF_16 = (b"\xff\xfe", b"\xfe\xff")      # the marks that some editors begin a text with
+NO_TEXT = bytes(byte for byte in range(32) if byte not in b"\t\n\f\r") + b"\x7f"
+
+
+def is_recorded(data):
+    """Whether these bytes, or their first 15, begin a recorded lesson and not one in words.  A setup and one message
+    have 15 bytes, and every message has a byte 0, which no text has.  The words of a setup take more than 3 bytes, and
+    no setup that opens a series begins as UTF-16 does.  ./waxglimmer tells it by the same rule."""
+    if len(data) < 4:
+        return True
+    return data[:2] not in UTF_16 and any(byte in NO_TEXT for byte in data[:15])
 
 
 class Lesson:
@@ -81,24 +94,34 @@ def read_line(lessons, number, line):
         lessons[-1].add(line)
 
 
-def read_lessons(path):
-    """The lessons of a file, or a Mistake that names the file and the line."""
+def text_lines(data):
+    """The lines of a text in UTF-8, or in UTF-16 with its mark; whatever ends them."""
+    encoding = "utf-16" if data[:2] in UTF_16 else "utf-8-sig"
+    return io.TextIOWrapper(io.BytesIO(data), encoding=encoding, errors="backslashreplace").readlines()
+
+
+def lessons_of(data, name):
+    """The lessons of a text, or a Mistake that names the text and the line."""
     lessons, number = [], 0
-    with open(path, encoding="utf-8-sig", errors="backslashreplace") as file:
-        lines = file.readlines()
     try:
-        for number, line in enumerate(lines, 1):
+        for number, line in enumerate(text_lines(data), 1):
             read_line(lessons, number, line)
         (lessons[-1] if lessons else Lesson(None, 1)).end()
     except Mistake as mistake:
-        raise Mistake("%s:%d: %s" % (path, max(number, 1), mistake)) from None
+        raise Mistake("%s:%d: %s" % (name, max(number, 1), mistake)) from None
     return lessons
 
 
-def read_one(path):
-    """The only lesson of a file."""
-    lessons = read_lessons(path)
+def read_lessons(path):
+    """The lessons of a file."""
+    with open(path, "rb") as file:
+        return lessons_of(file.read(), path)
+
+
+def one_lesson(data, name):
+    """The only lesson of a text."""
+    lessons = lessons_of(data, name)
     if len(lessons) > 1:
         raise Mistake("%s:%d: a second lesson; expected: one, so copy the one that is wanted to a"
-                      " file of its own" % (path, lessons[1].place))
+                      " file of its own" % (name, lessons[1].place))
     return lessons[0]

@@ -1,6 +1,6 @@
 #!/usr/bin/env python3
-"""Tries tests/lesson.py: what it says of mistakes, that `make` gives back what `show` was given, and
-that `words` says what the lines say.
+"""Tries teach/lesson.py without the session program: what it says of mistakes, how it tells a recorded lesson from
+one in words, that `make` gives back what `show` was given, and that `tell` says what the lines say.
 
     python3 tests/lesson_cases.py
 
@@ -9,7 +9,6 @@ Exit status 1, with a line for each case that failed, if any did.
 
 import tools
 import contextlib
-import glob
 import io
 import os
 import random
@@ -19,12 +18,13 @@ import sys
 import tempfile
 
 import lesson
+from cases import DOCUMENTS, HERE, ROOT, every_lesson, expect, finish, lessons_to_copy, read
 from model import Series, session
 from packed import *
 from sentences import NAMES, REASONS, REFUSALS, Teller
+from source import is_recorded
 from words import SIDE_WORDS, message_bytes, message_words, setup_bytes, setup_words
 
-HERE = os.path.dirname(os.path.abspath(__file__))
 SETUP = "setup call exempt M 1 K 10 strike 200"
 TOP = "whole number from 0 to %d"
 
@@ -84,7 +84,7 @@ REFUSED = [
     ("dark buy 50 100 x 0", 4), ("phase 131071", 4), ("cancel 50 #1048575", 8), ("cancel 50 3", 8),
     ("bytes FF" + " ff" * 10, 1), ("bytes b000", 1),
 ]
-# What is said of the lesson worked out in docs/LESSONS.md.
+# What is said of teach/lessons/cancel-reveals-nothing.txt, which docs/LESSONS.md works out.
 SAID = """\
 message 1 is noted: open
 message 2 is noted: away 180 210
@@ -108,38 +108,28 @@ SAID_ALONE = {
 NO_LINES = ["", "open", "1 1 0 0 0 0 0 0 0", "1 7 0 0 0 0 0 0 0 0", "1 refused 12", "0 refused 2",
             "0 1 0 0 0 0 0 0 0 0", "1 6 9 0 3 1 0 5 0 1", "1 4 0 2 3 1 0 5 5 1"]
 
-failures = []
-
-
-def expect(case, told, wanted):
-    if told != wanted:
-        failures.append("%s\n    wanted: %r\n    told:   %r" % (case, wanted, told))
-
-
-def run(*arguments, stdin=""):
+def run(*arguments):
     """(status, what is printed, what is said on standard error) of one command."""
     out, err = io.StringIO(), io.StringIO()
-    before, sys.stdin = sys.stdin, io.StringIO(stdin)
-    try:
-        with contextlib.redirect_stdout(out), contextlib.redirect_stderr(err):
-            status = lesson.main(list(arguments))
-    finally:
-        sys.stdin = before
+    with contextlib.redirect_stdout(out), contextlib.redirect_stderr(err):
+        status = lesson.main(list(arguments))
     return status, out.getvalue(), err.getvalue()
 
 
-def read(path, mode="r"):
-    with open(path, mode, encoding=None if "b" in mode else "utf-8") as file:
-        return file.read()
+def told(path, lines):
+    """What `tell` says of lines, for the lesson of a file."""
+    with open("mine.out", "w", encoding="utf-8") as file:
+        file.write(lines)
+    return run("tell", path, "mine.out")
 
 
-def made(text):
+def made(text, encoding="utf-8"):
     """The lesson that `make` makes of a text, and what was said."""
-    with open("mine.txt", "w", encoding="utf-8", errors="surrogateescape") as file:
-        file.write(text)
+    with open("mine.txt", "wb") as file:
+        file.write(text.encode(encoding, "surrogateescape"))
     with open("mine.bin", "wb") as file:
         file.write(b"as before")
-    said = run("make", "mine.txt", "mine.bin")
+    said = run("make", "mine.txt", "mine.txt", "mine.bin")
     return read("mine.bin", "rb"), said
 
 
@@ -147,17 +137,51 @@ def try_mistakes():
     cases = FILES + [("%s\n\n%s\nopen\n" % (SETUP, words), 3, wrong) for words, wrong in MESSAGES]
     for text, line, wrong in cases:
         data, (status, out, err) = made(text)
-        expect(repr(text[:90]), (data, status, out), (b"as before", 2, ""))
+        expect(repr(text[:90]), (data, status, out), (b"as before", 1, ""))
         start = "mine.txt:%d: %s" % (line, wrong)
         expect(repr(text[:90]), (err[:len(start)], "; expected" in err, err.count("\n")), (start, True, 1))
     for words, refusal in REFUSED:
         data, said = made("\ufeff%s\r\n1 open\n  noted\n# a remark\n%s\n" % (SETUP, words))
         expect(words, (said, session(data)[1:]), ((0, "", ""), ["2 refused %d" % refusal]))
-    for arguments in (("show", "nothing.bin"), ("make", "nothing.txt", "mine.bin"), ("show", "."),
-                      ("make", "mine.txt", "no/mine.bin"), ("words", "nothing.bin"),
-                      ("make", "mine.txt", "mine.txt"), ("make", "mine.txt"), ("sing", "mine.bin")):
+    made(SETUP + "\n")
+    for arguments in (("show", "nothing.bin"), ("make", "it", "nothing.txt", "mine.bin"), ("show", "."),
+                      ("make", "it", "mine.txt", "no/mine.bin"), ("make", "it", "mine.bin", "other.bin"),
+                      ("tell", "nothing.bin", "mine.out"), ("book", "mine.bin", "no.out", "no.book"),
+                      ("book-lines", "no.book"), ("make", "it", "mine.txt"), ("sing", "mine.bin")):
         status, out, err = run(*arguments)
-        expect(" ".join(arguments), (status, out, err != ""), (2, "", True))
+        expect(" ".join(arguments), (status, out, err != ""), (1, "", True))
+
+
+# How lessons begin, and whether such a beginning is that of a recorded one.
+BEGINNINGS = [
+    (b"", True), (b"DP", True), (b"\xff\xfe", True), (b"DP\x03\x20", True), (b"\xd4PND", False),
+    (b"\xd4PND\xb0\x00", True), (b"\xd4PND" + b"\xb0" * 10 + b"\x00", True),
+    (b"\xd4PND" + b"\xb0" * 11 + b"\x00", False), (b"setup call exempt", False), (b"\n\t\f\r # \xc3\xbc ~", False),
+    (b"0 setup\x7f", True), (b"\xef\xbb\xbfsetup", False), (b"\xff\xfes\x00e\x00", False),
+    (b"\xfe\xff\x00s\x00e", False), (b"\xff\xfd\x00s\x00e", True),
+]
+
+
+def try_recorded_or_words():
+    for data, recorded in BEGINNINGS:
+        expect("recorded or in words: %r" % data, is_recorded(data), recorded)
+    for byte in range(256):
+        for place in (0, 3, 4, 14):
+            data = b"setup call exempt"[:place] + bytes([byte]) + b"setup call exempt"[place + 1:]
+            expect("recorded or in words: %r" % data, is_recorded(data), byte in (*range(9), 11, *range(14, 32), 127))
+    for path in every_lesson():
+        data = read(path, "rb")
+        expect("recorded: " + path, is_recorded(data), True)
+        expect("in words: " + path, is_recorded(run("show", path)[1].encode()), False)
+        with open("same.bin", "wb") as file:
+            file.write(b"as before")
+        expect("record " + path, (run("record", "it", path, "same.bin"), read("same.bin", "rb")), ((0, "", ""), data))
+    text = "%s\r\nopen\r  noted\n# \u00fc\f\norder buy 50 10 x 5" % SETUP
+    wanted = made(text)[0]
+    expect("a text in bytes", wanted.hex(" ", -11), made(SETUP + "\nopen\norder buy 50 10 x 5\n")[0].hex(" ", -11))
+    for encoding in ("utf-8-sig", "utf-16", "latin-1"):
+        expect("a text in " + encoding, made(text, encoding), (wanted, (0, "", "")))
+    expect("a text in utf-16-be", made("\ufeff" + text, "utf-16-be"), (wanted, (0, "", "")))
 
 
 def try_round_trips():
@@ -180,24 +204,22 @@ def try_round_trips():
         expect("setup %s" % data.hex(), setup_bytes(setup_words(data)), data)
 
 
-def try_closed_pipes():
-    path = os.path.join(HERE, "recorded", "mixed-01")
-    for command in (["show", path + ".bin"], ["words", path + ".bin"]):
+def try_standard_output():
+    """A reader that is gone ends it quietly; a disk that is full is named."""
+    path, tool = os.path.join(HERE, "recorded", "mixed-01"), os.path.join(ROOT, "teach", "lesson.py")
+    for command in (["show", path + ".bin"], ["tell", path + ".bin", path + ".out"]):
         reading, writing = os.pipe()
         os.close(reading)
-        with open(path + ".out") as lines:
-            done = subprocess.run([sys.executable, os.path.join(HERE, "..", "teach", "lesson.py")] + command,
-                                  stdin=lines, stdout=writing, stderr=subprocess.PIPE)
+        done = subprocess.run([sys.executable, tool] + command, stdout=writing, stderr=subprocess.PIPE)
         os.close(writing)
         expect(command[0] + " to a reader that is gone", done.stderr, b"")
+        with open("/dev/full", "w") as full:
+            done = subprocess.run([sys.executable, tool] + command, stdout=full, stderr=subprocess.PIPE)
+        expect(command[0] + " to a full disk", (done.returncode, done.stderr),
+               (1, b"waxglimmer: standard output: No space left on device\n"))
 
 
-def every_lesson():
-    return sorted(glob.glob(os.path.join(HERE, "lessons", "*.bin"))
-                  + glob.glob(os.path.join(HERE, "recorded", "*.bin")))
-
-
-# ---------------------------------------------------------------- words
+# ---------------------------------------------------------------- sentences
 
 ENTRY = r"(?:maker|party) (\d+)'s (plain|MMLO|MMALO|MMRP|displayed|dark) (buy|sell) (?:quote|order), entry (\d+)"
 TOLD = re.compile(r"(?:the rest of )?%s, (rests|is repriced|is rejected|is cancelled|trades)(?: for (\d+) \([^)]*\)"
@@ -233,74 +255,87 @@ def kinds_of(data):
     return kinds
 
 
-def try_words():
+def try_sentences():
     for path in every_lesson():
         data, lines = read(path, "rb"), read(path[:-4] + ".out")
-        status, out, err = run("words", path, stdin=lines)
-        expect("words " + path, (status, err, len(out.split("\n"))), (0, "", len(lines.split("\n"))))
+        status, out, err = told(path, lines)
+        expect("tell " + path, (status, err, len(out.split("\n"))), (0, "", len(lines.split("\n"))))
         played = "/lessons/" in path and unpack_setup(data[:4]) is not None
         kinds = kinds_of(data) if played else None
         for line, both in zip(lines.split("\n")[:-1], out.split("\n")):
             sentence = both[len(line):].strip()
-            expect("words " + path, both[:len(line)], line)
+            expect("tell " + path, both[:len(line)], line)
             number, _, rest = line.partition(" ")
             if rest.startswith("refused") or rest.startswith("1 0 "):
                 sent = message_words(messages_of(data)[int(number) - 1]) if number != "0" else "no series"
-                expect("words %s: %s" % (path, line), sentence.endswith(": " + sent), True)
+                expect("tell %s: %s" % (path, line), sentence.endswith(": " + sent), True)
                 continue
-            told, names = line_told(sentence)
-            expect("words %s: %s" % (path, line), told, rest)
+            fields, names = line_told(sentence)
+            expect("tell %s: %s" % (path, line), fields, rest)
             if kinds is not None:
                 expect("kinds in %s: %s" % (path, line), names, {entry: kinds[entry] for entry in names})
 
 
-def try_words_alone():
+def try_lines_alone():
     for line, sentence in SAID_ALONE.items():
-        expect("words: " + line, Teller().sentence(line), sentence)
+        expect("tell: " + line, Teller().sentence(line), sentence)
+    path = os.path.join(HERE, "lessons", "31-phases.bin")
     for line in NO_LINES:
-        status, out, err = run("words", stdin="1 refused 1\n%s\n" % line)
-        expect("words: " + line, (status, out.count("\n"), err[:8], "; expected" in err), (2, 1, "line 2: ", True))
+        status, out, err = told(path, "1 refused 1\n%s\n" % line)
+        expect("tell: " + line, (status, out.count("\n"), err[:8], "; expected" in err), (1, 1, "line 2: ", True))
     for name in ("full-book-of-64", "refusal-1-bytes-that-hold-no-message", "examples-a-b-c"):
-        lines = read(os.path.join(HERE, "lessons", name + ".out"))
-        status, out, err = run("words", os.path.join(HERE, "lessons", "31-phases.bin"), stdin=lines)
-        expect("words of another lesson than " + name, (status, err[:5]), (2, "line "))
+        status, out, err = told(path, read(os.path.join(HERE, "lessons", name + ".out")))
+        expect("tell of another lesson than " + name, (status, err[:5]), (1, "line "))
 
 
-def try_documents():
-    """README's lesson and the one of docs/LESSONS.md are as the commands print them."""
-    readme = read(os.path.join(HERE, "..", "README.md"))
-    path = os.path.join(HERE, "lessons", "26-example-k-puts-by-the-strike")
-    for text, count in ((run("show", path + ".bin")[1], 6), (read(path + ".out"), 7)):
-        block = "\n" + "".join("    %s\n" % line for line in text.split("\n")[:count]) + "\n"
-        expect("README: " + text.split("\n")[0], block in readme, True)
-    blocks = read(os.path.join(HERE, "..", "docs", "LESSONS.md")).split("```\n")
-    data, said = made(blocks[1])
-    expect("docs/LESSONS.md", (said, session(data)), ((0, "", ""), blocks[3].split("\n")[:-1]))
-    out = run("words", "mine.bin", stdin=blocks[3])[1]
-    expect("docs/LESSONS.md in words", [line[36:] for line in out.split("\n")], SAID.split("\n"))
+# ---------------------------------------------------------------- lessons to copy, and the documents
+
+def blocks_of(text):
+    """The blocks of a document that stand indented or between fences, as they are without that."""
+    fenced = re.findall(r"^```\w*\n(.*?)^```$", text, re.M | re.S)
+    indented = re.findall(r"(?:^    .*\n|^\n(?=    ))+", text, re.M)
+    return fenced + [re.sub(r"^    ", "", block, flags=re.M).strip("\n") + "\n" for block in indented]
+
+
+def try_lessons_to_copy():
+    """Those of teach/lessons are lessons that are known, and a lesson that a document shows can be made."""
+    known = {"puts-by-the-strike": read(os.path.join(HERE, "lessons", "26-example-k-puts-by-the-strike.bin"), "rb"),
+             "one-away-move": read(os.path.join(HERE, "recorded", "worked-session.bin"), "rb")}
+    names = {os.path.basename(path)[:-4]: path for path in lessons_to_copy()}
+    expect("teach/lessons", set(names) >= {*known, "cancel-reveals-nothing"}, True)
+    for name, path in names.items():
+        data, said = made(read(path))
+        expect(path, (said, data), ((0, "", ""), known.get(name, data)))
+        expect(path, read(path).startswith("# "), True)
+    data = made(read(names["cancel-reveals-nothing"]))[0]
+    out = told("mine.bin", "".join(line + "\n" for line in session(data)))[1]
+    expect("cancel-reveals-nothing", [line[36:] for line in out.split("\n")], SAID.split("\n"))
+    for path in filter(os.path.exists, DOCUMENTS):
+        for block in blocks_of(read(path)):
+            if re.match(r"(#.*\n|\n)*setup ", block):
+                expect("a lesson in " + path, made(block)[1], (0, "", ""))
 
 
 def try_tables():
-    """The reasons and refusals of README's tables are in the words that are said of them."""
+    """The reasons and refusals of the teacher's tables are in the words that are said of them."""
     tables, found = {**REASONS, **REFUSALS}, set()
-    for numbers, cell in re.findall(r"^\| ([\d, ]+) \| ([^|]*) \|$", read(os.path.join(HERE, "..", "README.md")), re.M):
+    path = os.path.join(ROOT, "docs", "TEACHER.md")
+    text = read(path) if os.path.exists(path) else ""
+    for numbers, cell in re.findall(r"^\| ([\d, ]+) \| ([^|]*) \|$", text, re.M):
         meanings = cell.split(": ")[-1].split("; ") if "," in numbers else [cell]
         for number, meaning in zip(numbers.split(", "), meanings):
             if int(number) in tables:
                 found.add(int(number))
-                expect("README's %s" % number, set(meaning.split()) - set(tables[int(number)].split()), set())
-    expect("README's reasons and refusals", found, set(tables))
+                expect("docs/TEACHER.md's %s" % number, set(meaning.split()) - set(tables[int(number)].split()), set())
+    expect("the reasons and refusals of docs/TEACHER.md", found, set(tables))
 
 
 if __name__ == "__main__":
     with tempfile.TemporaryDirectory() as folder:
         os.chdir(folder)
-        for part in (try_mistakes, try_round_trips, try_closed_pipes, try_words, try_words_alone,
-                     try_documents, try_tables):
+        for part in (try_mistakes, try_recorded_or_words, try_round_trips, try_standard_output, try_sentences,
+                     try_lines_alone, try_lessons_to_copy, try_tables):
             part()
         os.chdir(HERE)
-    if failures:
-        print("\n".join(failures[:40]))
-        sys.exit("lesson_cases: %d cases failed" % len(failures))
-    print("%d mistakes are named, %d lessons come back from their words, and each of their lines is told"
-          % (len(FILES) + len(MESSAGES), len(every_lesson())))
+    finish("lesson_cases", "%d mistakes are named, %d lessons come back from their words, and each of their lines is told"
+           % (len(FILES) + len(MESSAGES), len(every_lesson())))
