@@ -97,8 +97,7 @@ def row_of(resting, mark):
 
 def fate_of(entry, reports):
     """What became of an entry that does not rest, by the reports that name it."""
-    traded = sum(report.quantity for report in reports
-                 if report.kind == TRADED and entry in (report.entry, report.other))
+    traded = sum(report.quantity for report in reports if report.kind == TRADED and report.entry == entry)
     for report in reports:
         if report.entry == entry and report.kind in (REJECTED, CANCELLED):
             done = "rejected" if report.kind == REJECTED else "cancelled"

@@ -16,6 +16,7 @@ import subprocess
 import tempfile
 
 from cases import DOCUMENTS, HERE, ROOT, every_lesson, expect, finish, lessons_to_copy, read
+from lesson_cases import BEGINNINGS
 
 DOOR = os.path.join(ROOT, "waxglimmer")
 PLAYING = ("run", "show", "tell", "book")
@@ -115,9 +116,18 @@ def try_book(path, text, name):
     expect("book's entries of " + name, drawn, [(line.split()[0], line.split()[3]) for line in lines.splitlines()])
 
 
+def try_recorded(path):
+    """A recorded lesson on a pipe, and in words."""
+    for data in (read(path, "rb"), shown(path)):
+        expect("run " + path, door("run", stdin=data), (0, read(path[:-4] + ".out"), ""))
+
+
 def try_lessons():
     with concurrent.futures.ThreadPoolExecutor(os.cpu_count()) as pool:
         list(pool.map(try_lesson, every_lesson("lessons")))
+        list(pool.map(try_recorded, every_lesson("recorded")))
+    for data, recorded in BEGINNINGS:       # of those that are in words none is a whole lesson
+        expect("run of %r" % data, door("run", stdin=data)[0], 0 if recorded else 1)
     for path in lessons_to_copy():
         for command in PLAYING:
             expect("%s %s" % (command, path), door(command, path)[::2], (0, ""))
@@ -172,7 +182,11 @@ def try_live():
     process = subprocess.Popen([DOOR, "run"], stdin=subprocess.PIPE, stdout=subprocess.PIPE, bufsize=0)
     process.stdin.write(bytes(4))
     expect("a refused setup, the input open", (answered(process), process.wait(30)), ("0 refused 1\n", 0))
-    process.stdin.close()
+    try:
+        process.stdin.write(bytes(11))
+        expect("a refused setup", "something reads on", "nothing reads on")
+    except BrokenPipeError:
+        pass
 
 
 def try_closed_readers():
@@ -287,4 +301,4 @@ if __name__ == "__main__":
                      try_documents):
             part()
         os.chdir(HERE)
-    finish("front_door", "the front door opens: every command, in words and recorded, and %d lessons" % len(every_lesson("lessons")))
+    finish("front_door", "the front door opens: every command, in words and recorded, and %d lessons" % len(every_lesson()))

@@ -205,18 +205,20 @@ def try_round_trips():
 
 
 def try_standard_output():
-    """A reader that is gone ends it quietly; a disk that is full is named."""
-    path, tool = os.path.join(HERE, "recorded", "mixed-01"), os.path.join(ROOT, "teach", "lesson.py")
-    for command in (["show", path + ".bin"], ["tell", path + ".bin", path + ".out"]):
-        reading, writing = os.pipe()
-        os.close(reading)
-        done = subprocess.run([sys.executable, tool] + command, stdout=writing, stderr=subprocess.PIPE)
-        os.close(writing)
-        expect(command[0] + " to a reader that is gone", done.stderr, b"")
-        with open("/dev/full", "w") as full:
-            done = subprocess.run([sys.executable, tool] + command, stdout=full, stderr=subprocess.PIPE)
-        expect(command[0] + " to a full disk", (done.returncode, done.stderr),
-               (1, b"waxglimmer: standard output: No space left on device\n"))
+    """A reader that is gone ends it quietly; a disk that is full is named, once."""
+    tool = [sys.executable, os.path.join(ROOT, "teach", "lesson.py")]
+    env = {name: value for name, value in os.environ.items() if name != "PYTHONUNBUFFERED"}
+    for path in (os.path.join(HERE, "recorded", "mixed-01"), os.path.join(HERE, "lessons", "example-e")):
+        for command in (["show", path + ".bin"], ["tell", path + ".bin", path + ".out"]):
+            reading, writing = os.pipe()
+            os.close(reading)
+            done = subprocess.run(tool + command, stdout=writing, stderr=subprocess.PIPE, env=env)
+            os.close(writing)
+            expect(command[0] + " to a reader that is gone", done.stderr, b"")
+            with open("/dev/full", "w") as full:
+                done = subprocess.run(tool + command, stdout=full, stderr=subprocess.PIPE, env=env)
+            expect(command[0] + " to a full disk", (done.returncode, done.stderr),
+                   (1, b"waxglimmer: standard output: No space left on device\n"))
 
 
 # ---------------------------------------------------------------- sentences
