@@ -79,6 +79,7 @@ class Copy:
 def try_progress():
     """A line for each crate as it is done, and what rt does not read is played; later runs start at once."""
     copy = Copy("first run")
+    not_done("waxglimmer: the session program is not built", "session", script=copy.script, stdin=DATA, env=copy.env)
     expect("a mistake is named before anything is proved", copy.run("run", stdin="setup\n")[0], 1)
     expect("a mistake is named before anything is proved", copy.checks(), 0)
     status, out, err = copy.run("run")
