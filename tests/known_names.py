@@ -24,7 +24,7 @@ ANTT_SIGNED = re.compile(r"(?:(?:pub|abbrev|unfoldable) )*([^\s:(){}]+(?: [^\s:(
 ANTT_USE = re.compile(r"^(?:ghost )?use ([\w·.-]+)\.\{([^}]*)\}", re.M)
 TIE_USE = re.compile(r"\b(tie)\.([\w-]+)|(?<= )(\.[a-z][\w-]*)")      # places of a proof, and what is read there
 C_DEFINED = re.compile(r"^#define (\w+)|^(?!return|else)[A-Za-z_][\w \t*]*?\b(\w+)\(|^(?:typedef )?struct (\w+)", re.M)
-SHELL_COMMAND = re.compile(r"^  (\w+)\)", re.M)
+SHELL_COMMAND = re.compile(r"^  (\w+)(?: \| \S+)*\)", re.M)
 
 
 def walked():

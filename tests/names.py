@@ -60,7 +60,7 @@ LESSONS = re.compile(r"\blessons? ((?:[\w]+(?:-[\w]+)+(?: \([^)]*\))?(?:, )?)+)"
 
 def is_path(known, name):
     """A file or folder, from the root, from crates/ or by its own name; CRATE and the like stand for any."""
-    wanted = PLACEHOLDER.sub("*", name.rstrip("/"))
+    wanted = PLACEHOLDER.sub("*", name.rstrip("/")).removeprefix("./")
     if "/" not in wanted:
         return any(fnmatch.fnmatchcase(file, wanted) for file in known.files) \
             or name.startswith(".") and any(file.endswith(name) for file in known.files)
