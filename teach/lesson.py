@@ -8,21 +8,8 @@
     lesson.py book LESSON LINES BOOK     the book after each message, drawn of the lines of the view `book`
     lesson.py book-lines BOOK            the same lines, in the order of the drawing
 
-LESSON is a recorded lesson.  The words, with prices in cents:
-
-    setup call exempt M 1 K 10 strike 200     or put; or tested, where 25 and 26 are asked
-    open                                      or close, or halt
-    away 200 220                              away bid and offer; none for no price
-    underlying 150                            none for no price
-    enable 3                                  maker 3 may quote again
-    mmrp buy 3 225 x 50                       or plain, mmlo, mmalo, order, dark; or sell: party, limit, quantity
-    cancel 50 #3                              party 50 cancels its entry 3
-    withdraw 3 buy                            maker 3 cancels its buy quote
-    bytes 40 60 07 08 00 C8 00 00 00 00 00    bytes as they are; fewer than 11 for a short last message
-
-A number need only fit its field, so that what is refused can be tried too. Lines that begin with # are
-remarks; an indented line says in words a report of the message above it, and is passed over; so is a number
-that a line begins with. Where a line is wrong, NAME:LINE says how, the status is 1 and nothing is written.
+LESSON is a recorded lesson; docs/TEACHER.md lists the words of one.  Where a line is wrong, NAME:LINE says how, the
+status is 1 and nothing is written.
 """
 
 import os

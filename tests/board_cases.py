@@ -11,7 +11,7 @@ import random
 
 from board import Board, KINDS, Report, Resting, drawn, in_drawn_order, mark_of
 from cases import expect, finish
-from model import session
+from model import books, session
 from packed import *
 from source import one_lesson
 from words import Mistake
@@ -274,6 +274,7 @@ def try_pictures():
     for name, (text, lines, book, picture) in PICTURES.items():
         data = data_of(text)
         expect(name + ": its lines", session(data), lines.splitlines())
+        expect(name + ": its books", books(data), book.splitlines())
         expect(name, drawn(data, lines.splitlines(), book.splitlines()), picture.splitlines())
 
 
@@ -315,6 +316,10 @@ def try_lines():
         expect("--lines of %s" % (order,), in_drawn_order([wanted[place] for place in order]), wanted)
 
 
+def first_of(side):
+    return str(min(side, key=lambda entry: entry.place).entry) if side else "no"
+
+
 def try_any_book():
     """Whatever rests: at most 80 columns, every entry once, who trades first nearest to the middle."""
     dice = random.Random(1)
@@ -334,7 +339,9 @@ def try_any_book():
         if book:
             expect("the middle of a picture", middle, [1 + (len(sells) or 1)])
             nearest = picture[middle[0] - 1].split()[0]
-            expect("who sells first", nearest, str(min(sells, key=lambda entry: entry.place).entry) if sells else "no")
+            expect("who sells first", nearest, first_of(sells))
+            nearest = picture[middle[0] + 1].split()[0]
+            expect("who buys first", nearest, first_of([entry for entry in book if entry.side == BUY]))
 
 
 if __name__ == "__main__":

@@ -101,10 +101,10 @@ def try_terminal():
     process = subprocess.Popen([copy.script, "run"], env=copy.env, stdin=subprocess.DEVNULL, stdout=subprocess.PIPE, stderr=slave)
     os.close(slave)
     text = b""
-    while not text.endswith(b"3 of 3 crates proved") and process.poll() is None:
+    while True:
         try:
             text += os.read(master, 1000)
-        except OSError:
+        except OSError:             # nobody has the terminal any more
             break
     expect("the program on a terminal", process.communicate(timeout=30)[0], b"played  0\n")
     os.close(master)

@@ -279,7 +279,7 @@ def shown_commands(text):
 def try_documents():
     """What the documents show of a command is what it prints: all of it, or its beginning if the block ends with `..`."""
     count = 0
-    for path in filter(os.path.exists, DOCUMENTS):
+    for path in DOCUMENTS:
         for line, block in shown_commands(read(path)):
             arguments = shlex.split(line)[1:]
             if arguments[0] not in PLAYING:

@@ -312,7 +312,7 @@ def try_lessons_to_copy():
     data = made(read(names["cancel-reveals-nothing"]))[0]
     out = told("mine.bin", "".join(line + "\n" for line in session(data)))[1]
     expect("cancel-reveals-nothing", [line[36:] for line in out.split("\n")], SAID.split("\n"))
-    for path in filter(os.path.exists, DOCUMENTS):
+    for path in DOCUMENTS:
         for block in blocks_of(read(path)):
             if re.match(r"(#.*\n|\n)*setup ", block):
                 expect("a lesson in " + path, made(block)[1], (0, "", ""))
@@ -321,8 +321,7 @@ def try_lessons_to_copy():
 def try_tables():
     """The reasons and refusals of the teacher's tables are in the words that are said of them."""
     tables, found = {**REASONS, **REFUSALS}, set()
-    path = os.path.join(ROOT, "docs", "TEACHER.md")
-    text = read(path) if os.path.exists(path) else ""
+    text = read(os.path.join(ROOT, "docs", "TEACHER.md"))
     for numbers, cell in re.findall(r"^\| ([\d, ]+) \| ([^|]*) \|$", text, re.M):
         meanings = cell.split(": ")[-1].split("; ") if "," in numbers else [cell]
         for number, meaning in zip(numbers.split(", "), meanings):

@@ -18,7 +18,7 @@ use Rattle.lines.specs.Buffer.{TextPut, longestLine, roomy}
 use Rattle.lines.proofs.Counting.{counts}
 use Rattle.lines.proofs.BufferLaws.{printed-there, printed-nowhere}
 use Rattle.lines.proofs.LineLaws.{line-short}
-use Rattle.board.specs.Board.{placeOf, entryFields, lineAt, linesFrom, boardText, boardPrinted}
+use Rattle.board.specs.Board.{placeOf, entryFields, lineAt, entryLines, boardText, boardPrinted}
 use Rattle.board.specs.Held.{Resting}
 
 -- the line that is put of an entry's fields is the entry's, and no longer than a line may be
@@ -34,15 +34,15 @@ module _ (number : ℕ) (e : Entry) {fields : List ℕ} {place : ℕ} (is : fiel
 module _ (number : ℕ) (es : List Entry) (n : ℕ) where
   -- the lines that are left from rank i on
   abbrev pub leftFrom : ℕ → List ℕ
-  leftFrom i = linesFrom number (take n es) i (drop i (take n es))
+  leftFrom i = entryLines number (take n es) i (drop i (take n es))
 
   pub next-line : (i : ℕ) (d : Entry) → n ≤ length es → i < n → leftFrom i ≡ lineAt number (take n es) i (getD es i d) ++ leftFrom (i + 1)
-  unfolding linesFrom
-  next-line i d fits h = ap (linesFrom number (take n es) i) (next-left es n i d fits h)
+  unfolding entryLines
+  next-line i d fits h = ap (entryLines number (take n es) i) (next-left es n i d fits h)
 
   pub no-line : (i : ℕ) → n ≤ i → leftFrom i ≡ []
-  unfolding linesFrom
-  no-line i h = ap (linesFrom number (take n es) i) (none-left es n i h)
+  unfolding entryLines
+  no-line i h = ap (entryLines number (take n es) i) (none-left es n i h)
 
 -- ---- the whole ----
 

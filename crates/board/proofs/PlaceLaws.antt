@@ -1,84 +1,26 @@
--- WHAT A PLACE MEANS: on a side places go by who trades first, no two are the same, and 0 is whom a taker of the other side trades with next.
+-- WHAT A PLACE MEANS: on a side places go by who trades first and no two are the same; of those that a taker may trade with, it meets the one with the least
+-- place first.
 -- Assumes nothing.
 use Prim.Native.Nat.{ℕ, _≤_, _<_}
-use mathlib.Core.Bool.{Bool, true, false, not, _&&_, _||_, Bool·beq}
+use mathlib.Core.Bool.{Bool, true, false, not, _||_}
 use mathlib.Core.List.{List}
 use mathlib.Core.Logic.{_⊎_, inl, inr, ⊎-elim}
 use mathlib.Core.Path.{_≡_, refl, sym, ap, subst, _∙_}
 use native.Mathlib.Omega.{arith}
-use borrow.Author.Tests.{ltb-true, ltb-false, lt-ltb, eqb-true, eq-eqb}
-use lib.Dec.{eqb, ltb}
+use borrow.Author.Tests.{ltb-true, ltb-false}
+use lib.Dec.{ltb}
 use Rattle.lists.specs.Places.{At}
 use Rattle.lists.specs.Choose.{Found, nowhere, found}
-use Rattle.lists.proofs.Bools.{clash, and-left, and-right, and-both, beq-true, eq-beq}
+use Rattle.lists.proofs.Bools.{clash, and-left, and-both, beq-true, eq-beq}
 use Rattle.lists.proofs.PlaceLaws.{at-same}
 use Rattle.lists.proofs.ChooseLaws.{Chosen, Tells, chosen-one, chosen-some}
 use Rattle.lists.proofs.CountLaws.{passing, counts-passing, fewer-still, none-pass, pass-none}
 use Rattle.book.specs.declared.Entry.{Entry}
-use Rattle.book.specs.Entries.{against}
+use Rattle.book.specs.Entries.{displayed, against}
 use Rattle.book.specs.Look.{priority, eligible, bestContra}
 use Rattle.book.proofs.LookLaws.{best-tells}
-use Rattle.board.specs.Board.{turn, before, beforeAt, placeOf}
-
--- f, of rank j, trades before e, of rank i: in plain words, both ways
-pub record Before (i : ℕ) (e : Entry) (j : ℕ) (f : Entry) : Type 0 where
-  pub side : f .sell ≡ e .sell
-  pub sooner : turn f ≤ turn e
-  pub older : turn f ≡ turn e → j < i
-
-pub before-says : (i : ℕ) (e : Entry) (j : ℕ) (f : Entry) → beforeAt i e j f ≡ true → Before i e j f
-unfolding before
-before-says i e j f h = by (ltb (turn f) (turn e)) refl
-  where
-    same : Bool·beq (f .sell) (e .sell) ≡ true
-    same = and-left (Bool·beq (f .sell) (e .sell)) (ltb (turn f) (turn e) || (ltb j i && eqb (turn f) (turn e))) h
-
-    rest : (ltb (turn f) (turn e) || (ltb j i && eqb (turn f) (turn e))) ≡ true
-    rest = and-right (Bool·beq (f .sell) (e .sell)) (ltb (turn f) (turn e) || (ltb j i && eqb (turn f) (turn e))) h
-
-    by : (b : Bool) → ltb (turn f) (turn e) ≡ b → Before i e j f
-    by true t =
-        let less = ltb-true (turn f) (turn e) t in
-        record { side = beq-true (f .sell) (e .sell) same; sooner = omega arith; older = λ q. absurd (omega arith) }
-    by false t =
-        let both : (ltb j i && eqb (turn f) (turn e)) ≡ true = rw t at rest in
-        let q = eqb-true (turn f) (turn e) (and-right (ltb j i) (eqb (turn f) (turn e)) both) in
-        record {
-          side = beq-true (f .sell) (e .sell) same;
-          sooner = omega arith;
-          older = λ z. ltb-true j i (and-left (ltb j i) (eqb (turn f) (turn e)) both);
-        }
-
-pub says-before : (i : ℕ) (e : Entry) (j : ℕ) (f : Entry) → Before i e j f → beforeAt i e j f ≡ true
-unfolding before
-says-before i e j f b = rw (eq-beq (f .sell) (e .sell) (b .side)) (by (ltb (turn f) (turn e)) refl)
-  where
-    by : (t : Bool) → ltb (turn f) (turn e) ≡ t → (t || (ltb j i && eqb (turn f) (turn e))) ≡ true
-    by true t = refl
-    by false t =
-        let q : turn f ≡ turn e = omega (arith, ltb-false (turn f) (turn e) t, b .sooner) in
-        rw (lt-ltb j i (b .older q), eq-eqb (turn f) (turn e) q) refl
-
--- it is an order: nobody trades before itself, whoever trades before one that does so does so too, and of two on a side one does
-not-before : (i : ℕ) (e : Entry) → Before i e i e → ⊥
-not-before i e b = omega (arith, b .older refl)
-
-through : {i j k : ℕ} {e f g : Entry} → Before j f k g → Before i e j f → Before i e k g
-through {i} {j} {k} {e} {f} {g} a b = record {
-  side = a .side ∙ b .side;
-  sooner = omega (arith, a .sooner, b .sooner);
-  older = λ q. omega (arith, a .older (omega (arith, a .sooner, b .sooner, q)), b .older (omega (arith, a .sooner, b .sooner, q)));
-}
-
--- of two on a side one trades before the other
-either : {i j : ℕ} {e f : Entry} → e .sell ≡ f .sell → i < j → Before j f i e ⊎ Before i e j f
-either {i} {j} {e} {f} side h = by (ltb (turn f) (turn e)) refl
-  where
-    by : (t : Bool) → ltb (turn f) (turn e) ≡ t → Before j f i e ⊎ Before i e j f
-    by true t =
-        let less = ltb-true (turn f) (turn e) t in
-        inr (record { side = sym side; sooner = omega arith; older = λ q. absurd (omega arith) })
-    by false t = inl (record { side = side; sooner = ltb-false (turn f) (turn e) t; older = λ q. h })
+use Rattle.board.specs.Board.{turn, beforeAt, placeOf}
+use Rattle.board.proofs.OrderLaws.{Ahead, ahead-says, says-ahead, not-ahead, through, either, Before, ahead-before, before-ahead}
 
 -- whom a taker of side s may trade with, and by what
 faced : (s : Bool) (e : Entry) → eligible s false e ≡ true → e .sell ≡ not s
@@ -99,20 +41,23 @@ module _ (l : List Entry) where
   unfolding placeOf
   place-passing i e = counts-passing (beforeAt i e) l
 
-  -- THEOREM. WHO TRADES BEFORE ANOTHER HAS THE LESSER PLACE
-  pub place-order : {i j : ℕ} {e f : Entry} → At l i e → At l j f → Before i e j f → placeOf l j f < placeOf l i e
-  place-order {i} {j} {e} {f} a b h =
+  ahead-place : {i j : ℕ} {e f : Entry} → At l i e → At l j f → Ahead i e j f → placeOf l j f < placeOf l i e
+  ahead-place {i} {j} {e} {f} a b h =
       let more = fewer-still (beforeAt j f) (beforeAt i e) l
-      (λ k g c t. says-before i e k g (through (before-says j f k g t) h)) j f b (self (beforeAt j f j f) refl) (says-before i e j f h) in
+      (λ k g c t. says-ahead i e k g (through (ahead-says j f k g t) h)) j f b (self (beforeAt j f j f) refl) (says-ahead i e j f h) in
       omega (arith, place-passing i e, place-passing j f)
     where
       self : (t : Bool) → beforeAt j f j f ≡ t → t ≡ false
-      self true q = absurd (not-before j f (before-says j f j f q))
+      self true q = absurd (not-ahead j f (ahead-says j f j f q))
       self false q = refl
+
+  -- THEOREM. WHO TRADES BEFORE ANOTHER HAS THE LESSER PLACE
+  pub place-order : (i j : ℕ) (e f : Entry) → At l i e → At l j f → Before i e j f → placeOf l j f < placeOf l i e
+  place-order i j e f a b h = ahead-place a b (before-ahead i e j f h)
 
   differ : {i j : ℕ} (e f : Entry) → At l i e → At l j f → e .sell ≡ f .sell → i < j → placeOf l i e ≡ placeOf l j f → ⊥
   differ e f a b side h same =
-      ⊎-elim (λ o. omega (arith, place-order b a o, same)) (λ o. omega (arith, place-order a b o, same)) (either side h)
+      ⊎-elim (λ o. omega (arith, ahead-place b a o, same)) (λ o. omega (arith, ahead-place a b o, same)) (either side h)
 
   -- THEOREM. NO TWO ON A SIDE HAVE THE SAME PLACE
   pub places-apart : {i j : ℕ} (e f : Entry) → At l i e → At l j f → e .sell ≡ f .sell → placeOf l i e ≡ placeOf l j f → i ≡ j
@@ -123,14 +68,59 @@ module _ (l : List Entry) where
       by false t true v = absurd (differ f e b a (sym side) (ltb-true j i v) (sym same))
       by false t false v = omega (arith, ltb-false i j t, ltb-false j i v)
 
-  -- THEOREM. WHOM A TAKER TRADES WITH NEXT has place 0
+  -- AND THE OTHER WAY ABOUT: on a side who has the lesser place trades before the other
+  pub order-place : (i j : ℕ) (e f : Entry) → At l i e → At l j f → e .sell ≡ f .sell → placeOf l j f < placeOf l i e → Before i e j f
+  order-place i j e f a b side less = by (ltb i j) refl (ltb j i) refl
+    where
+      of : Ahead j f i e ⊎ Ahead i e j f → Before i e j f
+      of (inl o) = absurd (omega (arith, ahead-place b a o))
+      of (inr o) = ahead-before i e j f o
+
+      swap : Ahead i e j f ⊎ Ahead j f i e → Before i e j f
+      swap (inl o) = of (inr o)
+      swap (inr o) = of (inl o)
+
+      by : (t : Bool) → ltb i j ≡ t → (u : Bool) → ltb j i ≡ u → Before i e j f
+      by true t u v = of (either side (ltb-true i j t))
+      by false t true v = swap (either (sym side) (ltb-true j i v))
+      by false t false v =
+          let here : i ≡ j = omega (arith, ltb-false i j t, ltb-false j i v) in
+          let one : e ≡ f = at-same l j e f (subst (λ (n : ℕ). At l n e) here a) b in
+          let same : placeOf l i e ≡ placeOf l j f = ap (λ (n : ℕ). placeOf l n e) here ∙ ap (placeOf l j) one in
+          absurd (omega (arith, same))
+
+  -- THEOREM. OF THOSE THAT A TAKER MAY TRADE WITH, IT MEETS THE ONE WITH THE LEAST PLACE FIRST: of all that face it, or, for an MMLO, of those displayed
+  pub least-place : (s shownOnly : Bool) (i : ℕ) (e : Entry) → bestContra s shownOnly l ≡ found i e
+      → (k : ℕ) (z : Entry) → At l k z → eligible s shownOnly z ≡ true → placeOf l i e ≤ placeOf l k z
+  least-place s shownOnly i e h k z a own = by (ltb (placeOf l k z) (placeOf l i e)) refl
+    where
+      best : Chosen (eligible s shownOnly) (priority s) l i e
+      best = subst (Tells (eligible s shownOnly) (priority s) l) h (best-tells s shownOnly l)
+
+      faces : (x : Entry) → eligible s shownOnly x ≡ true → x .sell ≡ not s
+      faces x t = beq-true (x .sell) (not s) (and-left (against s x) (not shownOnly || displayed x) t)
+
+      never : Before i e k z → ⊥
+      never b =
+          let o = before-ahead i e k z b in
+          let mine = turn-facing s e (faces e (best .passes)) in
+          let its = turn-facing s z (faces z own) in
+          let same : turn z ≡ turn e = omega (arith, best .least k z a own, mine, its, o .sooner) in
+          omega (arith, best .earliest k z a own (o .older same), mine, its, same)
+
+      by : (t : Bool) → ltb (placeOf l k z) (placeOf l i e) ≡ t → placeOf l i e ≤ placeOf l k z
+      by true t =
+          absurd (never (order-place i k e z (best .there) a (faces e (best .passes) ∙ sym (faces z own)) (ltb-true (placeOf l k z) (placeOf l i e) t)))
+      by false t = ltb-false (placeOf l k z) (placeOf l i e) t
+
+  -- THEOREM. WHOM A TAKER OTHER THAN AN MMLO MEETS FIRST has place 0
   pub first-place : (s : Bool) (i : ℕ) (e : Entry) → bestContra s false l ≡ found i e → placeOf l i e ≡ 0
   first-place s i e h = place-passing i e ∙ none-pass (beforeAt i e) l (λ k g a. by k g a (beforeAt i e k g) refl)
     where
       best : Chosen (eligible s false) (priority s) l i e
       best = subst (Tells (eligible s false) (priority s) l) h (best-tells s false l)
 
-      ahead : (k : ℕ) (g : Entry) → At l k g → Before i e k g → e .sell ≡ not s → eligible s false g ≡ true → ⊥
+      ahead : (k : ℕ) (g : Entry) → At l k g → Ahead i e k g → e .sell ≡ not s → eligible s false g ≡ true → ⊥
       ahead k g a b faces own =
           let least = best .least k g a own in
           let same : turn g ≡ turn e = omega (arith, turn-facing s e faces, turn-facing s g (b .side ∙ faces), b .sooner) in
@@ -139,22 +129,22 @@ module _ (l : List Entry) where
       by : (k : ℕ) (g : Entry) → At l k g → (t : Bool) → beforeAt i e k g ≡ t → t ≡ false
       by k g a false t = refl
       by k g a true t =
-          let b = before-says i e k g t in
+          let b = ahead-says i e k g t in
           let faces = faced s e (best .passes) in
           let own = eligible-facing s g (b .side ∙ faces) in
           absurd (ahead k g a b faces own)
 
-  -- AND THE OTHER WAY ABOUT: who faces the taker and has place 0 is whom it trades with next
+  -- and the other way about: who faces it and has place 0 is whom it meets first
   pub place-first : (s : Bool) (i : ℕ) (e : Entry) → At l i e → against s e ≡ true → placeOf l i e ≡ 0 → bestContra s false l ≡ found i e
   place-first s i e a faces none = by (bestContra s false l) (best-tells s false l)
     where
       side : e .sell ≡ not s
       side = beq-true (e .sell) (not s) faces
 
-      nobody : (k : ℕ) (g : Entry) → At l k g → Before i e k g → ⊥
-      nobody k g b h = clash (says-before i e k g h) (pass-none (beforeAt i e) l (sym (place-passing i e) ∙ none) k g b)
+      nobody : (k : ℕ) (g : Entry) → At l k g → Ahead i e k g → ⊥
+      nobody k g b h = clash (says-ahead i e k g h) (pass-none (beforeAt i e) l (sym (place-passing i e) ∙ none) k g b)
 
-      sooner : (k : ℕ) (g : Entry) → eligible s false g ≡ true → priority s g ≤ priority s e → (priority s g ≡ priority s e → k < i) → Before i e k g
+      sooner : (k : ℕ) (g : Entry) → eligible s false g ≡ true → priority s g ≤ priority s e → (priority s g ≡ priority s e → k < i) → Ahead i e k g
       sooner k g own low older =
           let that = faced s g own in
           let f = turn-facing s g that in

@@ -43,13 +43,13 @@ entryFields place e =
 abbrev pub lineAt : ℕ → List Entry → ℕ → Entry → List ℕ
 lineAt number all i e = fieldLine number (entryFields (placeOf all i e) e)
 
-unfoldable pub linesFrom : ℕ → List Entry → ℕ → List Entry → List ℕ
-linesFrom number all i [] = []
-linesFrom number all i (e ∷ l) = lineAt number all i e ++ linesFrom number all (i + 1) l
+unfoldable pub entryLines : ℕ → List Entry → ℕ → List Entry → List ℕ
+entryLines number all i [] = []
+entryLines number all i (e ∷ l) = lineAt number all i e ++ entryLines number all (i + 1) l
 
 -- WHAT IS PRINTED OF A BOOK after message `number`: a line for each entry that rests, the oldest rank first
 unfoldable pub boardText : ℕ → List Entry → List ℕ
-boardText number l = linesFrom number l 0 l
+boardText number l = entryLines number l 0 l
 
 -- where it ends, and the buffer afterwards; 0, and the buffer as it was, where that might be too short
 abbrev pub boardPrinted : List ℕ → ℕ → ℕ → Book → ℕ × List ℕ

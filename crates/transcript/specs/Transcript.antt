@@ -25,7 +25,7 @@ unfoldable pub answered : Series → List ℕ → Handled
 answered s message = handled s message (replicate roomSize 0)
 
 -- what is printed for message `number`, by its answer: a line for each report, or the line of its refusal; or, where the book is to be seen, a line for each
--- entry that rests in the series that is left. (A refusal leaves the series as it stood, and so the book)
+-- entry that rests in the series that is left. (The book is beyond document 01. A refusal leaves the series as it stood, and so the book)
 abbrev pub textOf : View → ℕ → Handled → List ℕ
 textOf Reports number h = answerText number (h .answer .refusal) (h .answer .count) (h .room)
 textOf Book number h = boardText number (entriesOf (h .answer .series .book))
