@@ -41,7 +41,7 @@ def write(path, data):
 def make(name, given, path):
     data = read(given)
     if len(data) >= 4 and is_recorded(data):        # what is shorter is no lesson of either sort: the words say why
-        raise Mistake("%s: a lesson that is recorded already; expected: one in words" % name)
+        raise Mistake("%s: a recorded lesson, or no text at all; expected: a lesson in words" % name)
     write(path, one_lesson(data, name).data)
 
 

@@ -19,12 +19,14 @@ REASONS = {20: "at or through the away price", 21: "undisplayed interest in an M
            29: "the rest of the maker's quote on the opposite side was cancelled",
            30: "own quote rejected", 31: "phase"}
 REFUSALS = {1: "no message: length, kind, an unused bit or field that is not 0",
-            2: "party out of range", 3: "price out of range or off the grid",
+            2: "party out of range; makers are 1 to 16", 3: "price out of range or off the grid",
             4: "quantity or phase out of range", 5: "the series is not open",
             6: "the maker is blocked",
             7: "64 entries rest, besides the quote that this one replaces",
             8: "no such entry of that party, or no such quote",
             9: "the last entry number, 1,000,000, has been given"}
+
+NO_SERIES = "the setup is refused for 1 (length, or M, K or strike out of range): no series"
 
 
 def numbers_of(line):
@@ -48,12 +50,13 @@ class Teller:
     def __init__(self, messages=None):
         self.messages, self.last = messages, 0
         self.entered = {}       # entry number -> the message that entered it
+        self.traded = set()     # who has been a taker
 
     def sentence(self, line):
         number, answer = numbers_of(line)
         sent = self.sent(number, answer) if self.messages is not None and number > 0 else ""
         if number == 0:
-            return "the setup is refused for 1 (length or values): no series"
+            return NO_SERIES
         if isinstance(answer, int):
             return "message %d is refused for %d (%s)%s" % (number, answer, REFUSALS[answer], sent)
         if answer[0] == NOTED:
@@ -81,13 +84,14 @@ class Teller:
         who = self.who(entry, side, party)
         count = "%d contract%s" % (quantity, "" if quantity == 1 else "s")
         if kind == TRADED:
+            self.traded.add(entry)
             return "%s, trades as taker with %s: at %d, %s" % (who, self.who(other, 1 - side), price, count)
         if kind in (RESTED, REPRICED):
             done = "rests" if kind == RESTED else "is repriced"
             shown = "shown %d" % price if price != 0 else "not shown"
             return "%s, %s: %s, works %d, %s" % (who, done, shown, second, count)
         done = "rejected" if kind == REJECTED else "cancelled"
-        rest = "the rest of " if kind == CANCELLED and reason <= 23 else ""
+        rest = "the rest of " if kind == CANCELLED and reason <= 23 and entry in self.traded else ""
         return "%s%s, is %s for %d (%s): limit %d, %s" % (
             rest, who, done, reason, REASONS[reason], price, count)
 

@@ -9,7 +9,7 @@ begins each.  Lines that begin with # are remarks.  A line may begin with its nu
 import io
 
 from packed import messages_of
-from words import SETUP, Mistake, message_bytes, quoted, report_line, setup_bytes
+from words import MESSAGES, SETUP, Mistake, message_bytes, quoted, report_line, setup_bytes
 
 BEGIN = "expected first: setup " + SETUP
 UTF_16 = (b"\xff\xfe", b"\xfe\xff")      # the marks that some editors begin a text with
@@ -38,13 +38,15 @@ class Lesson:
         words = line.split()
         if words[0].isdigit() and len(words) > 1:
             words = words[1:]
-        if words[0] == "setup":
+        first = words[0].lower()
+        if first == "setup":
             if self.data is not None:
-                raise Mistake("a second setup; expected: one in a lesson, and one lesson in a file"
-                              " unless `lesson NAME` begins each")
+                raise Mistake("a second setup; expected: one lesson in a file, which begins with its setup")
             self.data = bytearray(setup_bytes(" ".join(words[1:])))
             self.short = "the setup has fewer than 4 bytes" if len(self.data) < 4 else ""
             return
+        if self.data is None and first not in MESSAGES and first != "bytes":
+            raise Mistake("%s begins no lesson; %s" % (quoted(words[0]), BEGIN))
         message = message_bytes(" ".join(words))
         if self.data is None:
             raise Mistake("a message before the setup; " + BEGIN)

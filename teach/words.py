@@ -21,8 +21,10 @@ A report a line, as the session program would say it in words:
     cancelled 27 buy 3 #2 225 x 40
     refused 8                               the message is refused
 
-A number need only fit its field: what the handler then refuses can be said too.
+A number need only fit its field: what the handler then refuses can be said too.  Words may stand in capitals.
 """
+
+import re
 
 from packed import *
 
@@ -71,11 +73,13 @@ def quoted(word):
 def value_of(name, word):
     """The number that a word says for a value or a choice."""
     if name in CHOICES:
-        if word not in name.split("|"):
+        if word.lower() not in name.split("|"):
             raise Mistake("%s is neither %s" % (quoted(word), name.replace("|", " nor ")))
-        return name.split("|").index(word)
-    if word == "none" and name in MAY_BE_NONE:
+        return name.split("|").index(word.lower())
+    if word.lower() == "none" and name in MAY_BE_NONE:
         return 0
+    if VALUES[name][0] in ("price", "second") and re.fullmatch(r"[0-9]{1,6}[.,][0-9]{2}", word):
+        raise Mistake("%s is no %s: prices are whole cents, as %d" % (quoted(word), name, int(word[:-3] + word[-2:])))
     digits = word[1:] if name[0] == word[0] == "#" else word
     top = (1 << VALUES[name][1]) - 1
     if not (digits.isascii() and digits.isdigit() and len(digits) < 10 and int(digits) <= top):
@@ -91,7 +95,7 @@ def fields_of(words, form):
         for name, word in zip(names[1:], words[1:]):
             if name in CHOICES or name in VALUES:
                 fields[CHOICES.get(name) or VALUES[name][0]] = value_of(name, word)
-            elif name != word:
+            elif name.lower() != word.lower():
                 raise Mistake("%s stands in the place of %s" % (quoted(word), name))
         if len(words) < len(names):
             raise Mistake("%s is missing" % " ".join(names[len(words):]))
@@ -120,7 +124,7 @@ def hex_bytes(words, least, most):
 def setup_bytes(line):
     """`call exempt M 1 K 10 strike 200`, or `put tested M ...`; or `bytes ..`."""
     words = line.split()
-    if words[:1] == ["bytes"]:
+    if words and words[0].lower() == "bytes":
         return hex_bytes(words[1:], 0, 4)
     return pack_setup(**fields_of(["setup"] + words, "setup " + SETUP))
 
@@ -128,15 +132,16 @@ def setup_bytes(line):
 def message_bytes(line):
     """The packed bytes of a message in words."""
     words = line.split()
-    if words[0] == "bytes":
+    first = words[0].lower()
+    if first == "bytes":
         return hex_bytes(words[1:], 1, 11)
-    if words[0] not in MESSAGES:
+    if first not in MESSAGES:
         raise Mistake("%s is no word for a message; expected: %s or bytes"
                       % (quoted(words[0]), ", ".join(MESSAGES)))
-    kind, form = MESSAGES[words[0]]
-    fields = fields_of(words, words[0] + " " + form)
-    if words[0] in PHASE_WORDS:
-        fields["quantity"] = PHASE_WORDS.index(words[0])
+    kind, form = MESSAGES[first]
+    fields = fields_of(words, first + " " + form)
+    if first in PHASE_WORDS:
+        fields["quantity"] = PHASE_WORDS.index(first)
     return Message(kind, **fields).pack()
 
 
@@ -173,11 +178,12 @@ def setup_words(data):
 def report_line(number, line):
     """The line the session program prints for a report in words."""
     words = line.replace("/", " / ").split()
-    if words[0] not in REPORTS:
+    first = words[0].lower()
+    if first not in REPORTS:
         raise Mistake("%s is no word for a report; expected: %s"
                       % (quoted(words[0]), ", ".join(REPORTS)))
-    kind, form = REPORTS[words[0]]
-    fields = fields_of(words, words[0] + " " + form)
+    kind, form = REPORTS[first]
+    fields = fields_of(words, first + " " + form)
     if kind == 0:
         return "%d refused %d" % (number, fields["refusal"])
     values = (number, kind) + tuple(fields.get(name, 0) for name in REPORT_FIELDS)

@@ -78,10 +78,10 @@ def try_help():
     for typed, right in (("rnu", "run"), ("runn", "run"), ("ru", "run"), ("fun", "run"), ("shwo", "show"), ("tel", "tell"),
                          ("bok", "book"), ("mske", "make"), ("tets", "test"), ("helpp", "help"), ("sing", ""), ("", "")):
         status, out, err = door(typed)
-        first, _, rest = err.partition("\n")
+        listed, _, last = err.rstrip("\n").rpartition("\n")
         hint = "; did you mean %s?" % right if right else ""
-        expect("typed " + typed, (status, out, first), (1, "", "waxglimmer: there is no command '%s'%s" % (typed, hint)))
-        expect("typed " + typed, rest.strip(), wanted[1].strip())
+        expect("typed " + typed, (status, out, last), (1, "", "waxglimmer: there is no command '%s'%s" % (typed, hint)))
+        expect("typed " + typed, listed.strip(), wanted[1].strip())
 
 
 # ---------------------------------------------------------------- lessons
@@ -105,7 +105,7 @@ def try_book(path, text, name):
     said = door("session", "book", stdin=read(path, "rb"))[1]
     expect("book --lines " + name, (status, sorted(lines.splitlines()), err), (0, sorted(said.splitlines()), ""))
     if said == "0 refused 1\n":
-        expect("book " + name, picture, "the setup is refused for 1 (length or values): no series\n")
+        expect("book " + name, picture, "the setup is refused for 1 (length, or M, K or strike out of range): no series\n")
         return
     told = [line for line in picture.splitlines() if re.match(r"\d+ ", line)]
     expect("book's messages of " + name, told, text.splitlines())
@@ -157,9 +157,10 @@ def try_places():
                 given = read(os.path.join("a folder", name), "rb")
                 expect("%s %s on a pipe" % (command, name), door(command, *rest, stdin=given), wanted[command])
     expect("--lines behind", door("book", LESSON, "--lines"), door("book", "--lines", LESSON))
+    not_done("book has no option --line ", "book", LESSON, "--line")
     expect("a name in a pipe", shell('"$door" run <("$door" show %s)' % shlex.quote(LESSON)), (0, LINES, ""))
-    expect("a file's name alone", door("my lesson.txt", cwd="a folder")[2].split("\n")[0],
-           "waxglimmer: there is no command 'my lesson.txt'; to play that file: waxglimmer run my lesson.txt")
+    expect("a file's name alone", door("my lesson.txt", cwd="a folder")[2].split("\n")[-2],
+           "waxglimmer: there is no command 'my lesson.txt'; to play that file: ./waxglimmer run 'my lesson.txt'")
 
 
 def answered(process):
@@ -230,19 +231,24 @@ def try_reasons():
 
 
 def try_make():
-    with open("words.txt", "w") as file:
-        file.write(WORDS)
+    for name, text in (("words.txt", WORDS), ("other.txt", WORDS), ("teach it.txt", WORDS + "close\n")):
+        with open(name, "w") as file:
+            file.write(text)
     expect("make", (door("make", "words.txt", "made it.bin"), read("made it.bin", "rb")), ((0, "", ""), read(LESSON, "rb")))
     expect("make of a pipe", (door("make", "-", "piped.bin", stdin=WORDS), read("piped.bin", "rb")), ((0, "", ""), read(LESSON, "rb")))
     for reason, arguments in (("make takes two names", ("words.txt",)), ("make takes two names", ()),
                               ("make takes two names", ("words.txt", "made", "it.bin")), ("no option -x", ("words.txt", "-x")),
                               ("words.txt and ./words.txt are one file", ("words.txt", "./words.txt")),
                               ("no/mine.bin cannot be written", ("words.txt", "no/mine.bin")), (". cannot be written", ("words.txt", ".")),
-                              ("made it.bin: a lesson that is recorded already", ("made it.bin", "other.bin")),
+                              ("/dev/full cannot be written", ("words.txt", "/dev/full")),
+                              ("made it.bin: a recorded lesson, or no text at all", ("made it.bin", "other.bin")),
+                              ("other.txt is a text, and would be lost", ("words.txt", "other.txt")),
                               ("bad words.txt:3: 'opne' is no word", ("bad words.txt", "made it.bin")),
                               ("there is no file 'nothing.txt'", ("nothing.txt", "made it.bin"))):
         not_done(reason, "make", *arguments)
     expect("what was made stays", read("made it.bin", "rb"), read(LESSON, "rb"))
+    expect("a text stays", read("other.txt"), WORDS)
+    expect("made again", (door("make", "teach it.txt", "made it.bin"), read("made it.bin", "rb") != read(LESSON, "rb")), ((0, "", ""), True))
     expect("nothing else is made", os.path.exists("other.bin"), False)
 
 

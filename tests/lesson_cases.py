@@ -47,22 +47,26 @@ FILES = [
     ("setup call exempt M 16 K 10 strike 200\n", 1, "'16' is no STEP, which is a " + TOP % 15),
     ("setup call exempt M 1 K 128 strike 200\n", 1, "'128' is no STEPS, which is a " + TOP % 127),
     ("setup call exempt M 1 K 10 strike 131072\n", 1, "'131072' is no STRIKE"),
-    ("setup call exempt m 1 K 10 strike 200\n", 1, "'m' stands in the place of M"),
+    ("setup call exempt N 1 K 10 strike 200\n", 1, "'N' stands in the place of M"),
+    ("%PDF-1.4 and more of it\n", 1, "'%PDF-1.4' begins no lesson; expected first: setup call|put"),
     (SETUP + " now\n", 1, "'now' is too much"),
     ("setup bytes 44 50 03 20 00\n", 1, "5 bytes"),
     ("setup bytes 44 50 03 2\n", 1, "'2' is no byte"),
     ("setup bytes 44 50\nopen\n", 2, "a message where none can be told; the setup has fewer than 4"),
     (SETUP + "\nbytes B0 00\nopen\n", 3, "a message where none can be told; the message above has"),
-    ("\x00\udcff\n", 1, "'\\x00\\\\xff' is no word for a message"),
+    ("\x00\udcff\n", 1, "'\\x00\\\\xff' begins no lesson; expected first: setup"),
 ]
 # Messages, and what is wrong with them.
 MESSAGES = [
-    ("opne", "'opne' is no word for a message"), ("MMRP buy 3 225 x 50", "'MMRP' is no word"),
+    ("opne", "'opne' is no word for a message"), ("MM-RP buy 3 225 x 50", "'MM-RP' is no word"),
     ("3", "'3' is no word for a message"), ("3 225 x 50", "'225' is no word for a message"),
     ("open now", "'now' is too much"), ("phase", "PHASE is missing"),
     ("phase 131072", "'131072' is no PHASE"), ("away 200", "OFFER is missing"),
     ("away", "BID OFFER is missing"), ("away 200 220 240", "'240' is too much"),
-    ("away 200 2.20", "'2.20' is no OFFER, which is a " + TOP % 131071 + ", or none"),
+    ("away 200 2.20", "'2.20' is no OFFER: prices are whole cents, as 220; expected"),
+    ("mmrp buy 3 10,05 x 50", "'10,05' is no LIMIT: prices are whole cents, as 1005; expected"),
+    ("away 200 2.2", "'2.2' is no OFFER, which is a " + TOP % 131071 + ", or none"),
+    ("order buy 50 100 x 2.20", "'2.20' is no QUANTITY, which is a"),
     ("away -1 none", "'-1' is no BID"), ("away 131072 none", "'131072' is no BID"),
     ("underlying", "PRICE is missing"), ("underlying no", "'no' is no PRICE"),
     ("enable", "MAKER is missing"), ("enable 128", "'128' is no MAKER, which is a " + TOP % 127),
@@ -98,11 +102,11 @@ maker 4's MMRP buy quote, entry 3, is repriced: shown 220, works 220, 26 contrac
 """
 SAID_ALONE = {
     "5 refused 6": "message 5 is refused for 6 (the maker is blocked)",
-    "0 refused 1": "the setup is refused for 1 (length or values): no series",
+    "0 refused 1": "the setup is refused for 1 (length, or M, K or strike out of range): no series",
     "4 2 26 0 3 3 0 200 0 1": "party 3's buy, entry 3, is rejected for 26 (a put's bid at or above the"
                               " strike): limit 200, 1 contract",
     "7 3 0 1 4 3 2 215 0 4": "party 4's sell, entry 3, trades as taker with entry 2: at 215, 4 contracts",
-    "7 6 22 0 3 4 0 103 0 1": "the rest of party 3's buy, entry 4, is cancelled for 22 (shown too far from"
+    "7 6 22 0 3 4 0 103 0 1": "party 3's buy, entry 4, is cancelled for 22 (shown too far from"
                               " its limit): limit 103, 1 contract",
 }
 NO_LINES = ["", "open", "1 1 0 0 0 0 0 0 0", "1 7 0 0 0 0 0 0 0 0", "1 refused 12", "0 refused 2",
@@ -140,6 +144,9 @@ def try_mistakes():
         expect(repr(text[:90]), (data, status, out), (b"as before", 1, ""))
         start = "mine.txt:%d: %s" % (line, wrong)
         expect(repr(text[:90]), (err[:len(start)], "; expected" in err, err.count("\n")), (start, True, 1))
+    small = "%s\nopen\naway none 220\nmmrp buy 3 225 x 50\nbytes b0 00\n" % SETUP
+    for text in (small, small.upper(), small.title()):
+        expect("in capitals", made(text), (made(small)[0], (0, "", "")))
     for words, refusal in REFUSED:
         data, said = made("\ufeff%s\r\n1 open\n  noted\n# a remark\n%s\n" % (SETUP, words))
         expect(words, (said, session(data)[1:]), ((0, "", ""), ["2 refused %d" % refusal]))
@@ -230,13 +237,14 @@ TOLD = re.compile(r"(?:the rest of )?%s, (rests|is repriced|is rejected|is cance
 KINDS = {"is rejected": 2, "trades": 3, "rests": 4, "is repriced": 5, "is cancelled": 6}
 
 
-def line_told(sentence):
-    """The nine fields that a sentence tells, and {entry: kind's name}; read back by itself."""
+def line_told(sentence, takers):
+    """The nine fields that a sentence tells, and {entry: kind's name}; read back by itself.  `takers` are the entries that
+    have taken: what is then cancelled on arrival is a rest."""
     match = TOLD.match(sentence)
     if match is None:
         return sentence, {}
     party, name, side, entry, done, reason, _, other_name, _, other, shown, price, quantity = match.groups()
-    if sentence.startswith("the rest of ") != (done == "is cancelled" and int(reason) <= 23):
+    if sentence.startswith("the rest of ") != (done == "is cancelled" and int(reason) <= 23 and entry in takers):
         return sentence, {}
     both = (shown or 0, price) if done in ("rests", "is repriced") else (price, 0)
     fields = (KINDS[done], reason or 0, SIDE_WORDS.index(side), party, entry, other or 0, *both, quantity)
@@ -263,7 +271,7 @@ def try_sentences():
         status, out, err = told(path, lines)
         expect("tell " + path, (status, err, len(out.split("\n"))), (0, "", len(lines.split("\n"))))
         played = "/lessons/" in path and unpack_setup(data[:4]) is not None
-        kinds = kinds_of(data) if played else None
+        kinds, takers = kinds_of(data) if played else None, set()
         for line, both in zip(lines.split("\n")[:-1], out.split("\n")):
             sentence = both[len(line):].strip()
             expect("tell " + path, both[:len(line)], line)
@@ -272,7 +280,8 @@ def try_sentences():
                 sent = message_words(messages_of(data)[int(number) - 1]) if number != "0" else "no series"
                 expect("tell %s: %s" % (path, line), sentence.endswith(": " + sent), True)
                 continue
-            fields, names = line_told(sentence)
+            fields, names = line_told(sentence, takers)
+            takers |= {rest.split()[4]} if rest.startswith("3 ") else set()
             expect("tell %s: %s" % (path, line), fields, rest)
             if kinds is not None:
                 expect("kinds in %s: %s" % (path, line), names, {entry: kinds[entry] for entry in names})
