@@ -11,47 +11,47 @@ use Rattle.lists.proofs.Bools.{clash, and-left, and-right, beq-true, eq-beq}
 use Rattle.book.specs.declared.Entry.{Entry}
 use Rattle.book.specs.Entries.{displayed}
 use Rattle.book.specs.Look.{cost, priority}
-use Rattle.board.specs.Board.{turn, before, beforeAt}
+use Rattle.board.specs.Board.{key, before, beforeAt}
 
 -- ---- by the number that decides ----
 
 pub record Ahead (i : ℕ) (e : Entry) (j : ℕ) (f : Entry) : Type 0 where
   pub side : f .sell ≡ e .sell
-  pub sooner : turn f ≤ turn e
-  pub older : turn f ≡ turn e → j < i
+  pub sooner : key f ≤ key e
+  pub older : key f ≡ key e → j < i
 
 pub ahead-says : (i : ℕ) (e : Entry) (j : ℕ) (f : Entry) → beforeAt i e j f ≡ true → Ahead i e j f
 unfolding before
-ahead-says i e j f h = by (ltb (turn f) (turn e)) refl
+ahead-says i e j f h = by (ltb (key f) (key e)) refl
   where
     same : Bool·beq (f .sell) (e .sell) ≡ true
-    same = and-left (Bool·beq (f .sell) (e .sell)) (ltb (turn f) (turn e) || (ltb j i && eqb (turn f) (turn e))) h
+    same = and-left (Bool·beq (f .sell) (e .sell)) (ltb (key f) (key e) || (ltb j i && eqb (key f) (key e))) h
 
-    rest : (ltb (turn f) (turn e) || (ltb j i && eqb (turn f) (turn e))) ≡ true
-    rest = and-right (Bool·beq (f .sell) (e .sell)) (ltb (turn f) (turn e) || (ltb j i && eqb (turn f) (turn e))) h
+    rest : (ltb (key f) (key e) || (ltb j i && eqb (key f) (key e))) ≡ true
+    rest = and-right (Bool·beq (f .sell) (e .sell)) (ltb (key f) (key e) || (ltb j i && eqb (key f) (key e))) h
 
-    by : (b : Bool) → ltb (turn f) (turn e) ≡ b → Ahead i e j f
+    by : (b : Bool) → ltb (key f) (key e) ≡ b → Ahead i e j f
     by true t =
-        let less = ltb-true (turn f) (turn e) t in
+        let less = ltb-true (key f) (key e) t in
         record { side = beq-true (f .sell) (e .sell) same; sooner = omega arith; older = λ q. absurd (omega arith) }
     by false t =
-        let both : (ltb j i && eqb (turn f) (turn e)) ≡ true = rw t at rest in
-        let q = eqb-true (turn f) (turn e) (and-right (ltb j i) (eqb (turn f) (turn e)) both) in
+        let both : (ltb j i && eqb (key f) (key e)) ≡ true = rw t at rest in
+        let q = eqb-true (key f) (key e) (and-right (ltb j i) (eqb (key f) (key e)) both) in
         record {
           side = beq-true (f .sell) (e .sell) same;
           sooner = omega arith;
-          older = λ z. ltb-true j i (and-left (ltb j i) (eqb (turn f) (turn e)) both);
+          older = λ z. ltb-true j i (and-left (ltb j i) (eqb (key f) (key e)) both);
         }
 
 pub says-ahead : (i : ℕ) (e : Entry) (j : ℕ) (f : Entry) → Ahead i e j f → beforeAt i e j f ≡ true
 unfolding before
-says-ahead i e j f b = rw (eq-beq (f .sell) (e .sell) (b .side)) (by (ltb (turn f) (turn e)) refl)
+says-ahead i e j f b = rw (eq-beq (f .sell) (e .sell) (b .side)) (by (ltb (key f) (key e)) refl)
   where
-    by : (t : Bool) → ltb (turn f) (turn e) ≡ t → (t || (ltb j i && eqb (turn f) (turn e))) ≡ true
+    by : (t : Bool) → ltb (key f) (key e) ≡ t → (t || (ltb j i && eqb (key f) (key e))) ≡ true
     by true t = refl
     by false t =
-        let q : turn f ≡ turn e = omega (arith, ltb-false (turn f) (turn e) t, b .sooner) in
-        rw (lt-ltb j i (b .older q), eq-eqb (turn f) (turn e) q) refl
+        let q : key f ≡ key e = omega (arith, ltb-false (key f) (key e) t, b .sooner) in
+        rw (lt-ltb j i (b .older q), eq-eqb (key f) (key e) q) refl
 
 -- it is an order: nobody trades before itself, whoever trades before one that does so does so too, and of two on a side one does
 pub not-ahead : (i : ℕ) (e : Entry) → Ahead i e i e → ⊥
@@ -65,13 +65,13 @@ through {i} {j} {k} {e} {f} {g} a b = record {
 }
 
 pub either : {i j : ℕ} {e f : Entry} → e .sell ≡ f .sell → i < j → Ahead j f i e ⊎ Ahead i e j f
-either {i} {j} {e} {f} side h = by (ltb (turn f) (turn e)) refl
+either {i} {j} {e} {f} side h = by (ltb (key f) (key e)) refl
   where
-    by : (t : Bool) → ltb (turn f) (turn e) ≡ t → Ahead j f i e ⊎ Ahead i e j f
+    by : (t : Bool) → ltb (key f) (key e) ≡ t → Ahead j f i e ⊎ Ahead i e j f
     by true t =
-        let less = ltb-true (turn f) (turn e) t in
+        let less = ltb-true (key f) (key e) t in
         inr (record { side = sym side; sooner = omega arith; older = λ q. absurd (omega arith) })
-    by false t = inl (record { side = side; sooner = ltb-false (turn f) (turn e) t; older = λ q. h })
+    by false t = inl (record { side = side; sooner = ltb-false (key f) (key e) t; older = λ q. h })
 
 -- ---- in plain words ----
 
@@ -113,11 +113,11 @@ module _ (a b : ℕ) where
   number-same false false h = (omega arith, refl)
 
 module _ (i : ℕ) (e : Entry) (j : ℕ) (f : Entry) where
-  first-number : f .sell ≡ e .sell → turn f ≡ 2 * cost (not (e .sell)) (f .working) + cond (displayed f) 0 1
+  first-number : f .sell ≡ e .sell → key f ≡ 2 * cost (not (e .sell)) (f .working) + cond (displayed f) 0 1
   unfolding priority
   first-number side = ap (λ (s : Bool). 2 * cost (not s) (f .working) + cond (displayed f) 0 1) side
 
-  own-number : turn e ≡ 2 * cost (not (e .sell)) (e .working) + cond (displayed e) 0 1
+  own-number : key e ≡ 2 * cost (not (e .sell)) (e .working) + cond (displayed e) 0 1
   unfolding priority
   own-number = refl
 

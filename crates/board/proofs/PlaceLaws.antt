@@ -19,7 +19,7 @@ use Rattle.book.specs.declared.Entry.{Entry}
 use Rattle.book.specs.Entries.{displayed, against}
 use Rattle.book.specs.Look.{priority, eligible, bestContra}
 use Rattle.book.proofs.LookLaws.{best-tells}
-use Rattle.board.specs.Board.{turn, beforeAt, placeOf}
+use Rattle.board.specs.Board.{key, beforeAt, placeOf}
 use Rattle.board.proofs.OrderLaws.{Ahead, ahead-says, says-ahead, not-ahead, through, either, Before, ahead-before, before-ahead}
 
 -- whom a taker of side s may trade with, and by what
@@ -29,8 +29,8 @@ faced s e h = beq-true (e .sell) (not s) (and-left (against s e) true h)
 eligible-facing : (s : Bool) (e : Entry) → e .sell ≡ not s → eligible s false e ≡ true
 eligible-facing s e h = and-both (against s e) true (eq-beq (e .sell) (not s) h) refl
 
-turn-facing : (s : Bool) (e : Entry) → e .sell ≡ not s → turn e ≡ priority s e
-turn-facing s e h = ap (λ (b : Bool). priority b e) (ap not h ∙ twice s)
+key-facing : (s : Bool) (e : Entry) → e .sell ≡ not s → key e ≡ priority s e
+key-facing s e h = ap (λ (b : Bool). priority b e) (ap not h ∙ twice s)
   where
     twice : (b : Bool) → not (not b) ≡ b
     twice true = refl
@@ -103,9 +103,9 @@ module _ (l : List Entry) where
       never : Before i e k z → ⊥
       never b =
           let o = before-ahead i e k z b in
-          let mine = turn-facing s e (faces e (best .passes)) in
-          let its = turn-facing s z (faces z own) in
-          let same : turn z ≡ turn e = omega (arith, best .least k z a own, mine, its, o .sooner) in
+          let mine = key-facing s e (faces e (best .passes)) in
+          let its = key-facing s z (faces z own) in
+          let same : key z ≡ key e = omega (arith, best .least k z a own, mine, its, o .sooner) in
           omega (arith, best .earliest k z a own (o .older same), mine, its, same)
 
       by : (t : Bool) → ltb (placeOf l k z) (placeOf l i e) ≡ t → placeOf l i e ≤ placeOf l k z
@@ -123,8 +123,8 @@ module _ (l : List Entry) where
       ahead : (k : ℕ) (g : Entry) → At l k g → Ahead i e k g → e .sell ≡ not s → eligible s false g ≡ true → ⊥
       ahead k g a b faces own =
           let least = best .least k g a own in
-          let same : turn g ≡ turn e = omega (arith, turn-facing s e faces, turn-facing s g (b .side ∙ faces), b .sooner) in
-          omega (arith, best .earliest k g a own (b .older same), turn-facing s e faces, turn-facing s g (b .side ∙ faces), same)
+          let same : key g ≡ key e = omega (arith, key-facing s e faces, key-facing s g (b .side ∙ faces), b .sooner) in
+          omega (arith, best .earliest k g a own (b .older same), key-facing s e faces, key-facing s g (b .side ∙ faces), same)
 
       by : (k : ℕ) (g : Entry) → At l k g → (t : Bool) → beforeAt i e k g ≡ t → t ≡ false
       by k g a false t = refl
@@ -147,8 +147,8 @@ module _ (l : List Entry) where
       sooner : (k : ℕ) (g : Entry) → eligible s false g ≡ true → priority s g ≤ priority s e → (priority s g ≡ priority s e → k < i) → Ahead i e k g
       sooner k g own low older =
           let that = faced s g own in
-          let f = turn-facing s g that in
-          let o = turn-facing s e side in
+          let f = key-facing s g that in
+          let o = key-facing s e side in
           record { side = that ∙ sym side; sooner = omega arith; older = λ q. older (omega arith) }
 
       least : (k : ℕ) (g : Entry) → At l k g → eligible s false g ≡ true → (t : Bool) → ltb (priority s g) (priority s e) ≡ t → priority s e ≤ priority s g

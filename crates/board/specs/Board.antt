@@ -17,12 +17,12 @@ use Rattle.lines.specs.Buffer.{printed}
 -- ---- who trades before whom ----
 
 -- what decides who of one side trades first: the priority that a taker of the other side goes by
-abbrev pub turn : Entry → ℕ
-turn e = priority (not (e .sell)) e
+abbrev pub key : Entry → ℕ
+key e = priority (not (e .sell)) e
 
 -- f trades before e: it stands on e's side and has the lesser priority, or the same and an older rank
 unfoldable pub before : Bool → Entry → Entry → Bool
-before older f e = Bool·beq (f .sell) (e .sell) && (ltb (turn f) (turn e) || (older && eqb (turn f) (turn e)))
+before older f e = Bool·beq (f .sell) (e .sell) && (ltb (key f) (key e) || (older && eqb (key f) (key e)))
 
 -- the same of an entry f of rank j and the entry e of rank i
 abbrev pub beforeAt : ℕ → Entry → ℕ → Entry → Bool

@@ -16,14 +16,14 @@ ghost use Rattle.lines.specs.Buffer.{TextPut, longestLine};
 ghost use Rattle.book.specs.Shape.{zeroEntry, entriesOf};
 ghost use Rattle.lines.specs.Lines.{FitWord};
 ghost use Rattle.board.specs.Held.{Resting, RestsAt};
-ghost use Rattle.board.specs.Board.{turn, before, placeOf, entryFields, lineAt, boardText, boardPrinted};
+ghost use Rattle.board.specs.Board.{key, before, placeOf, entryFields, lineAt, boardText, boardPrinted};
 
 // How many places a book has.
 const PLACES: usize = 64;
 
 // What decides who of one side trades first: the least does.
-fn turn_of(e: Entry) -> u64
-    ensures { λ r. ⌜ r ≡ turn e ⌝ }
+fn key_of(e: Entry) -> u64
+    ensures { λ r. ⌜ r ≡ key e ⌝ }
 {
     priority_of(!e.sell, e)
 }
@@ -32,8 +32,8 @@ fn turn_of(e: Entry) -> u64
 fn is_before(older: bool, f: Entry, e: Entry) -> bool
     ensures { λ r. ⌜ r ≡ before older f e ⌝ }
 {
-    let first = turn_of(f);
-    let own = turn_of(e);
+    let first = key_of(f);
+    let own = key_of(e);
     (f.sell == e.sell) & ((first < own) | (older & (first == own)))
 }
 

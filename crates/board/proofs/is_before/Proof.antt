@@ -4,18 +4,18 @@ use borrow.Author.Needs.{needs}
 use Rattle.board.proofs.is_before.Statement.{statement}
 use Rattle.board.proofs.is_before.Tie as tie
 
-turn-of-requires : tie.Need-turn-of-requires
-turn-of-requires c κs = search needs
+key-of-requires : tie.Need-key-of-requires
+key-of-requires c κs = search needs
 
-turn-of-requires-2 : tie.Need-turn-of-requires-2
-turn-of-requires-2 c κs = search needs
+key-of-requires-2 : tie.Need-key-of-requires-2
+key-of-requires-2 c κs = search needs
 
 returns : tie.Need-returns
 unfolding before
 returns c =
-    let at-turn-of2 : tie.After-turn-of2 = search in
-    let at-turn-of : tie.After-turn-of = search in
-    rw (at-turn-of .turn-of .ensures, at-turn-of2 .turn-of2 .ensures) refl
+    let at-key-of2 : tie.After-key-of2 = search in
+    let at-key-of : tie.After-key-of = search in
+    rw (at-key-of .key-of .ensures, at-key-of2 .key-of2 .ensures) refl
 
 pub is-before-spec : {M : Type 1} → statement M
-is-before-spec = tie.close (tie.spec turn-of-requires turn-of-requires-2 returns)
+is-before-spec = tie.close (tie.spec key-of-requires key-of-requires-2 returns)
