@@ -231,9 +231,12 @@ def try_reasons():
 
 
 def try_make():
-    for name, text in (("words.txt", WORDS), ("other.txt", WORDS), ("teach it.txt", WORDS + "close\n")):
+    for name, text in (("words.txt", WORDS), ("other.txt", WORDS), ("teach it.txt", WORDS + "close\n"), ("made it.bin.new", "mine")):
         with open(name, "w") as file:
             file.write(text)
+    with open("wide.txt", "w", encoding="utf-16") as file:
+        file.write(WORDS)
+    os.symlink("piped.bin", "link.bin")
     expect("make", (door("make", "words.txt", "made it.bin"), read("made it.bin", "rb")), ((0, "", ""), read(LESSON, "rb")))
     expect("make of a pipe", (door("make", "-", "piped.bin", stdin=WORDS), read("piped.bin", "rb")), ((0, "", ""), read(LESSON, "rb")))
     for reason, arguments in (("make takes two names", ("words.txt",)), ("make takes two names", ()),
@@ -243,11 +246,14 @@ def try_make():
                               ("/dev/full cannot be written", ("words.txt", "/dev/full")),
                               ("made it.bin: a recorded lesson, or no text at all", ("made it.bin", "other.bin")),
                               ("other.txt is a text, and would be lost", ("words.txt", "other.txt")),
+                              ("wide.txt is a text, and would be lost", ("words.txt", "wide.txt")),
                               ("bad words.txt:3: 'opne' is no word", ("bad words.txt", "made it.bin")),
                               ("there is no file 'nothing.txt'", ("nothing.txt", "made it.bin"))):
         not_done(reason, "make", *arguments)
     expect("what was made stays", read("made it.bin", "rb"), read(LESSON, "rb"))
-    expect("a text stays", read("other.txt"), WORDS)
+    expect("texts stay", (read("other.txt"), read("wide.txt", "rb").decode("utf-16"), read("made it.bin.new")), (WORDS, WORDS, "mine"))
+    expect("made through a link", (door("make", "teach it.txt", "link.bin"), os.path.islink("link.bin"), read("piped.bin", "rb")[:-11]),
+           ((0, "", ""), True, read(LESSON, "rb")))
     expect("made again", (door("make", "teach it.txt", "made it.bin"), read("made it.bin", "rb") != read(LESSON, "rb")), ((0, "", ""), True))
     expect("nothing else is made", os.path.exists("other.bin"), False)
 

@@ -20,7 +20,6 @@ use Rattle.packing.proofs.CodecLaws.{packs-fit, unpack-pack, packed-bytes}
 use Rattle.packing.proofs.ReportLaws.{lawful}
 use Rattle.packing.proofs.RoomLaws.{reports-read-back}
 use Rattle.io.specs.Counts.{Counts}
-use Rattle.lines.specs.Decimal.{decimal}
 use Rattle.lines.specs.Lines.{FitWord, reportLine, refusalLine, lineOf, reportLines, answerText, linesOf}
 use Rattle.lines.specs.Buffer.{TextPut, longestLine, roomy, printed, answerPrinted}
 use Rattle.lines.proofs.Counting.{counts}

@@ -10,7 +10,7 @@ use lib.Seq.{drop-cons, drop-drop}
 use Rattle.packing.specs.declared.report.Report.{Report}
 use Rattle.packing.specs.declared.report.Unpacked.{Unpacked}
 use Rattle.packing.specs.Codec.{unpackOf}
-use Rattle.packing.specs.Report.{reports, fieldsOf, unpacked, reportSize}
+use Rattle.packing.specs.Report.{reports, unpacked, reportSize}
 use Rattle.packing.specs.Room.{readBack}
 use Rattle.packing.proofs.CodecLaws.{unpack-short}
 use Rattle.lines.specs.Decimal.{decimal}

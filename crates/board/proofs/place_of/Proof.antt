@@ -1,7 +1,5 @@
 use Prim.Native.Nat.{_-_, _≤_}
-use mathlib.Core.Path.{_≡_}
 use native.Mathlib.Omega.{arith}
-use lib.ListN.{length}
 use Rattle.lists.specs.Choose.{counting}
 use Rattle.lists.proofs.LoopLaws.{Scanning, scan-start, scan-turn, scan-done}
 use Rattle.book.specs.Shape.{zeroEntry}

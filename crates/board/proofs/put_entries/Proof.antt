@@ -3,7 +3,7 @@ use native.Mathlib.Omega.{arith}
 use lib.ListN.{take, getD}
 use Rattle.book.specs.Shape.{zeroEntry}
 use Rattle.lines.specs.Buffer.{longestLine}
-use Rattle.lines.proofs.BufferLaws.{Going, going-start, going-turn, going-done, going-left, going-length, going-room}
+use Rattle.lines.proofs.BufferLaws.{Going, going-start, going-turn, going-done, going-left, going-length}
 use Rattle.board.specs.Board.{lineAt, boardText}
 use Rattle.board.proofs.BoardLaws.{leftFrom, next-line, no-line}
 use borrow.Author.Needs.{needs}

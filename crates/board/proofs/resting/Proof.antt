@@ -3,7 +3,6 @@ use native.Mathlib.Omega.{arith}
 use lib.ListN.{length, length-map}
 use lib.Seq.{take-all}
 use Rattle.book.specs.Shape.{entriesOf}
-use borrow.Author.Needs.{needs}
 use Rattle.board.proofs.resting.Statement.{statement}
 use Rattle.board.proofs.resting.Tie as tie
 
