@@ -19,11 +19,10 @@ use Rattle.terms.specs.Terms.{marketOf}
 use Rattle.arrival.specs.Cancel.{cut, cutQuote, sweep}
 use Rattle.arrival.specs.Take.{Taking}
 use Rattle.arrival.specs.Post.{pricesOf, asPosted, stopFor}
-use Rattle.arrival.specs.Arrive.{ofQuotes, bothQuotes, rejectedBy, replaced, finished, entered, rejection, arrivedAs, arrived}
+use Rattle.arrival.specs.Arrive.{ofQuotes, bothQuotes, rejectedBy, replaced, finished, entered, rejection, arrivedAs, arrived, tradesOf}
 use Rattle.arrival.proofs.TakeLaws.{took-all}
 use Rattle.arrival.proofs.CutLaws.{quote-all}
 use Rattle.arrival.proofs.SweepLaws.{SweepStep, sweeps, sweep-step, sweep-run}
-use Rattle.arrival.proofs.ArriveTells.{tradesOf}
 
 -- ---- who rests after an arrival: what rested before, perhaps with fewer contracts, and the arriving entry, at its prices before some book ----
 

@@ -33,7 +33,7 @@ use Rattle.terms.specs.Terms.{marketOf}
 use Rattle.arrival.specs.Cancel.{cutQuote}
 use Rattle.arrival.specs.Take.{Taking, took}
 use Rattle.arrival.specs.Post.{pricesOf, asPosted, stopFor}
-use Rattle.arrival.specs.Arrive.{reported, ofQuotes, bothQuotes, rejectedBy, replaced, cancelledRest, finished, entered, rejection, arrivedAs, arrived}
+use Rattle.arrival.specs.Arrive.{reported, ofQuotes, bothQuotes, rejectedBy, replaced, bookLeft, cancelledRest, finished, entered, rejection, arrivedAs, arrived}
 use Rattle.arrival.specs.Asks.{Arriving}
 use Rattle.arrival.proofs.ReasonLaws.{stop-among, rejection-among}
 use Rattle.arrival.proofs.TakeLaws.{took-few, took-length, took-left, took-all, took-sound, took-packs, took-clears}
@@ -261,6 +261,17 @@ module _ (t : Terms) (e : Entry) (l : List Entry) (a : Arriving t e l) where
       go : (why : ℕ) → why ≤ 26 → Stage (t .m) (t .given + 1) 64 (length l + 3) (arrivedAs t e l why)
       go zero h = entered-stage
       go (suc why) h = rejected-stage (suc why) (omega arith)
+
+-- the book in which what is left would post is sound
+pub left-sound : {t : Terms} {e : Entry} {l : List Entry} → Arriving t e l → Sound (t .m) (t .given) (bookLeft t e l)
+left-sound {t} {e} {l} a = took-sound (marketOf t) e (replaced e l .final) (replaced-stage t e l a .sound)
+
+-- the reports of an arrival that is not rejected are at most 67, and fit, whether it is or not
+pub entered-few : {t : Terms} {e : Entry} {l : List Entry} → Arriving t e l → length (entered t e l .records) ≤ 67
+entered-few {t} {e} {l} a = omega (arith, entered-stage t e l a .few, full t e l a)
+
+pub entered-fit : {t : Terms} {e : Entry} {l : List Entry} → Arriving t e l → AllPack (entered t e l .records)
+entered-fit {t} {e} {l} a = entered-stage t e l a .fit
 
 -- THE THEOREM
 pub arrives : {t : Terms} {e : Entry} {l : List Entry} → Arriving t e l → Arrived t e l

@@ -26,15 +26,11 @@ use Rattle.terms.specs.Terms.{marketOf}
 use Rattle.arrival.specs.Cancel.{cut, cutQuote}
 use Rattle.arrival.specs.Take.{Taking, bound, took}
 use Rattle.arrival.specs.Post.{pricesOf, asPosted, stopFor}
-use Rattle.arrival.specs.Arrive.{ofQuotes, bothQuotes, rejectedBy, replaced, finished, entered, rejection, arrivedAs, arrived}
+use Rattle.arrival.specs.Arrive.{ofQuotes, bothQuotes, rejectedBy, replaced, tradesOf, finished, entered, rejection, arrivedAs, arrived}
 use Rattle.arrival.proofs.ReasonLaws.{rejected-quote}
 use Rattle.arrival.proofs.TakeLaws.{took-all, took-tells}
 use Rattle.arrival.proofs.CutLaws.{OfMaker, of-maker, quote-all}
 use Rattle.arrival.proofs.ArriveKeeps.{goesOn}
-
--- the trades of an arrival that is not rejected, from the book that the quote it replaces has left
-abbrev pub tradesOf : Terms → Entry → List Entry → Ran Taking Report
-tradesOf t e l = took (marketOf t) e (replaced e l .final)
 
 -- x has the number of an entry of l, as what rested there has whatever became of it
 pub record Was (l : List Entry) (x : Entry) : Type 0 where

@@ -13,6 +13,7 @@ use Rattle.prices.specs.Side.{away}
 use Rattle.prices.specs.Step.{mpv, noneOrLegal, topPrice}
 use Rattle.kinds.specs.Kinds.{sliding, minds}
 use Rattle.prices.specs.Aims.{aims, Bounds}
+use Rattle.prices.specs.Test.{reasonOf}
 use Rattle.prices.specs.Protect.{Cents}
 use Rattle.prices.proofs.StepLaws.{LegalIfAny, if-any-is, if-any-none, given-legal, is-legal}
 use Rattle.lists.specs.Run.{Ran, still, leading, ran, andThen}
@@ -45,7 +46,7 @@ use Rattle.arrival.specs.Cancel.{Asks, cutQuote}
 use Rattle.arrival.specs.Take.{Taking, bound, offered, nextTake, chances, taken, took}
 use Rattle.arrival.specs.Post.{pricesBefore, pricesOf, asPosted, stopFor, Posts}
 use Rattle.arrival.specs.Arrive.{reported, ofQuotes, bothQuotes, rejectedBy, posted, cancelledRest, finished, entered}
-use Rattle.arrival.specs.Arrive.{noneTraded, stopsAtOnce, protectionBefore, protectionFor, orElse, rejection, arrivedAs, arrived}
+use Rattle.arrival.specs.Arrive.{noneTraded, stopsAtOnce, barsBefore, protectionFor, orElse, rejection, arrivedAs, arrived}
 use Rattle.arrival.specs.Asks.{trades, Arriving, Enters, nextTrade, tradeAs, Rests, Finishes}
 use Rattle.telling.proofs.StageLaws.{roomy-first, staged-then, staged-room, staged-none, staged-as, staged-go, roomy-as}
 use Rattle.arrival.proofs.TakeLaws.{take-falls, takes-now}
@@ -111,9 +112,10 @@ national-cents {t} {e} {f} {b} n =
     (all-map (λ x h. given-display x h) (entriesOf b) (k .1 .entries)) in
     record { best = rw (n .faces .national) (if-any-high g); limit = is-legal (t .m) (e .limit) (n .arriving .limit) .high }
 
-pub protected-by : {t : Terms} {e : Entry} {f : Facing} {b : Book} → Enters t e f b → protectionBefore t e (f .national) ≡ protectionFor t e (entriesOf b)
+pub protected-by : {t : Terms} {e : Entry} {f : Facing} {b : Book} → Enters t e f b
+    → reasonOf (e .sell) (barsBefore t e (f .national)) ≡ protectionFor t e (entriesOf b)
 unfolding protectionFor
-protected-by {t} {e} n = ap (protectionBefore t e) (n .faces .national)
+protected-by {t} {e} n = ap (λ (best : ℕ). reasonOf (e .sell) (barsBefore t e best)) (n .faces .national)
 
 -- whether there is a next trade
 abbrev pub going : Next → Bool

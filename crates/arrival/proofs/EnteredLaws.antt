@@ -1,6 +1,6 @@
 -- Laws of an arrival as the code goes about it: trades, an arrival that is not rejected, and either.
 -- Assumes nothing.
-use Prim.Native.Nat.{ℕ}
+use Prim.Native.Nat.{ℕ, _≤_}
 use mathlib.Core.Path.{_≡_, refl, sym, ap, subst, _∙_}
 use mathlib.Core.Bool.{Bool, true, false}
 use mathlib.Core.List.{List}
@@ -26,13 +26,13 @@ use Rattle.arrival.specs.Cancel.{Asks}
 use Rattle.arrival.specs.Take.{Taking, bound, taken, took}
 use Rattle.arrival.specs.Post.{stopFor}
 use Rattle.arrival.specs.Arrive.{rejectedBy, replaced, finished, entered, rejection}
-use Rattle.arrival.specs.Asks.{trades, Enters, Arrives, Goes, Takes, TakesOn, TookAs, takingOf, Finishes}
+use Rattle.arrival.specs.Asks.{trades, Enters, Arrives, Goes, Takes, TakesOn, TookAs, takingOf, Finishes, LeftIn}
 use Rattle.soundness_theory.proofs.MarketFacts.{sound-for}
 use Rattle.telling.proofs.StageLaws.{roomy-first, staged-list, staged-then, staged-room, staged-as, roomy-as}
 use Rattle.arrival.proofs.TakeLaws.{took-length}
 use Rattle.arrival.proofs.Untraded.{none-took, takes-minds}
 use Rattle.arrival.proofs.OwnSide.{still-contra, still-trades}
-use Rattle.arrival.proofs.ArriveKeeps.{goesOn}
+use Rattle.arrival.proofs.ArriveKeeps.{goesOn, entered-few, entered-fit}
 use Rattle.arrival.proofs.EnterLaws.{arrived-enters, arrived-rejected, posts-of}
 
 -- ---- trades ----
@@ -125,10 +125,25 @@ module _ {t : Terms} {e : Entry} {f : Facing} {trading : Bool} {b : Book} {room 
         roomy = roomy-as (ap (λ (z : Ran (List Entry) Report). z .records) same-ending) (staged-room taken-stage ending rest-of-room);
       }
 
+      -- what is left would post in that book
+      pub enter-left : LeftIn t e f b d
+      enter-left = record {
+        left = rests ∙ ap (λ (r : List Entry). took (marketOf t) e r .final .book) (staged-list x);
+        posts = enter-finishes .posts;
+      }
+
       pub enter-done : {last : Book} {room‴ : List ℕ} {n‴ : ℕ} → Staged (finished t e left (stopFor t e (entriesOf d)) (entriesOf d)) room″ n″ last room‴ n‴
           → Staged (entered t e (entriesOf b)) room n last room‴ n‴
       unfolding entered
       enter-done z = staged-then x (goesOn t e) (staged-then taken-stage ending (staged-as (sym same-ending) z))
+
+-- room for the reports of an arrival is room for this one's, whether it is rejected or not
+pub left-goes : {t : Terms} {e : Entry} {f : Facing} {b : Book} → Enters t e f b → (trading : Bool) → trading ≡ trades t e (entriesOf b)
+    → (room : List ℕ) → 938 ≤ length room → Goes t e f trading b room 0
+left-goes n trading told room space = record {
+  decides = record { enters = n; trades = told };
+  roomy = record { space = omega (arith, entered-few (n .arriving), space); fit = entered-fit (n .arriving) };
+}
 
 -- ---- either ----
 

@@ -37,7 +37,7 @@ use Rattle.terms.specs.Terms.{marketOf}
 use Rattle.arrival.specs.Cancel.{cutQuote}
 use Rattle.arrival.specs.Take.{Taking, took}
 use Rattle.arrival.specs.Post.{pricesOf, asPosted, stopFor}
-use Rattle.arrival.specs.Arrive.{reported, bothQuotes, rejectedBy, replaced, finished, entered, noneTraded, rejection, arrivedAs, arrived, blocks}
+use Rattle.arrival.specs.Arrive.{reported, bothQuotes, rejectedBy, replaced, finished, entered, noneTraded, rejection, arrivedAs, arrived, blocks, tradesOf}
 use Rattle.arrival.specs.Asks.{Arriving}
 use Rattle.arrival.proofs.ReasonLaws.{rejection-among, order-passes}
 use Rattle.arrival.proofs.TakeLaws.{took-all, took-sound}
@@ -46,7 +46,7 @@ use Rattle.arrival.proofs.PostLaws.{Fits, fits}
 use Rattle.arrival.proofs.Leaves.{Rests, cancels, cut-reports, quote-leaves, other-side, still-found}
 use Rattle.arrival.proofs.OwnSide.{not-against, same-contra, stopped-traded}
 use Rattle.arrival.proofs.ArriveKeeps.{goesOn}
-use Rattle.arrival.proofs.ArriveTells.{tradesOf, arrived-says}
+use Rattle.arrival.proofs.ArriveTells.{arrived-says}
 
 -- the entries that rested are sound
 before : {t : Terms} {e : Entry} {l : List Entry} → Arriving t e l → Sound (t .m) (t .given) l

@@ -6,13 +6,16 @@ pub mod TakeLaws
 pub mod Untraded
 pub mod CutLaws
 pub mod SweepLaws
+pub mod HiddenLaws
 pub mod PostLaws
+pub mod FiguresLaws
 pub mod StopReasons
 pub mod ArriveKeeps
 pub mod Leaves
 pub mod OwnSide
 pub mod ArriveTells
 pub mod ReasonsTold
+pub mod TableTold
 pub mod Afterwards
 pub mod Within
 pub mod Stays

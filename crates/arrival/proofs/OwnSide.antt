@@ -21,7 +21,7 @@ use Rattle.lists.proofs.ChooseLaws.{Tells}
 use Rattle.packing.specs.declared.report.Report.{Report}
 use Rattle.book.specs.declared.Entry.{Entry}
 use Rattle.book.specs.Entries.{quote, quoteOf, display, against}
-use Rattle.book.specs.Look.{working, facing, nearest, contra, national, eligible, bestContra, hidden, hiddenWithin, quoteIn}
+use Rattle.book.specs.Look.{working, facing, nearest, contra, national, eligible, bestContra, hidden, bestHidden, quoteIn}
 use Rattle.book.proofs.LookLaws.{ContraTells, contra-tells, quote-tells}
 use Rattle.soundness_theory.proofs.Facts.{Sound}
 use Rattle.soundness_theory.proofs.FrontLaws.{cost-is}
@@ -72,15 +72,9 @@ module _ (s : Bool) (x : Entry) (own : against s x ≡ false) where
   own-national a l i h = facing-from display l i a 0 0 h
 
   -- so is what 21 looks for
-  hidden-from : (limit : ℕ) (l : List Entry) (i : ℕ) → At l i x → any (hidden s limit) (without i l) ≡ any (hidden s limit) l
-  unfolding any without
-  hidden-from limit [] i h = absurd h
-  hidden-from limit (y ∷ l) zero h = let n : against s y ≡ false = ap (against s) h ∙ own in rw n refl
-  hidden-from limit (y ∷ l) (suc i) h = ap (λ (b : Bool). hidden s limit y || b) (hidden-from limit l i h)
-
-  own-hidden : (limit : ℕ) (l : List Entry) (i : ℕ) → At l i x → hiddenWithin s limit (without i l) ≡ hiddenWithin s limit l
-  unfolding hiddenWithin
-  own-hidden limit l i h = hidden-from limit l i h
+  own-hidden : (l : List Entry) (i : ℕ) → At l i x → bestHidden s (without i l) ≡ bestHidden s l
+  unfolding nearest
+  own-hidden l i h = facing-from hidden l i 0 0 0 h
 
 module _ {m top : ℕ} (e x : Entry) (own : against (e .sell) x ≡ false) (l : List Entry) (so : Sound m top l) (i : ℕ) (at : At l i x) where
   -- and whether the best contra entry is within a bound
@@ -123,7 +117,7 @@ module _ {m top : ℕ} (e x : Entry) (own : against (e .sell) x ≡ false) (l : 
 
   own-stop : (t : Terms) → stopFor t e (without i l) ≡ stopFor t e l
   unfolding stopFor
-  own-stop t = rw (own-contra (e .sell) x own l i at, own-hidden (e .sell) x own (e .limit) l i at) refl
+  own-stop t = rw (own-contra (e .sell) x own l i at, own-hidden (e .sell) x own l i at) refl
 
   own-protection : (t : Terms) → protectionFor t e (without i l) ≡ protectionFor t e l
   unfolding protectionFor

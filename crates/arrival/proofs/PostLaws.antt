@@ -5,7 +5,7 @@
 use Prim.Native.Nat.{ℕ, _≤_, _<_, min}
 use mathlib.Core.Path.{_≡_, refl, sym, _∙_}
 use mathlib.Core.Bool.{Bool, true, false, cond, not, _&&_}
-use mathlib.Core.List.{List}
+use mathlib.Core.List.{List, [], _∷_}
 use native.Mathlib.Omega.{arith}
 use lib.Dec.{eqb}
 use borrow.Author.Tests.{eqb-true, eqb-false}
@@ -16,22 +16,23 @@ use Rattle.prices.specs.Step.{lastPrice, topPrice}
 use Rattle.kinds.specs.Kinds.{sliding, minds, dark, light}
 use Rattle.kinds.proofs.KindLaws.{rigid-takes, sliding-heavy}
 use Rattle.prices.specs.Aims.{minded, upTo, shortOf, aimWorking, aims}
-use Rattle.prices.specs.Post.{bars20, bars22, bars23, firstStop, stopped}
+use Rattle.prices.specs.Test.{holds}
+use Rattle.prices.specs.Post.{test20, test21, test22, test23}
 use Rattle.prices.proofs.FrameLaws.{seen, seen-high, seen-meek, meek-either, reaches-false, reaches-not}
 use Rattle.prices.proofs.StepLaws.{Legal, LegalIfAny, within-last}
 use Rattle.prices.proofs.AimLaws.{unbound, faced, Aimed, aimed}
 use Rattle.prices.proofs.RestLaws.{Slides, arrives}
 use Rattle.prices.proofs.QuoteLaws.{unmarketable, minding-rests}
 use Rattle.lists.specs.Places.{At}
-use Rattle.lists.specs.Tests.{All, any}
+use Rattle.lists.specs.Tests.{All, firstHolding}
 use Rattle.lists.proofs.Bools.{cond-zero}
-use Rattle.lists.proofs.TestLaws.{all-at, all-of, any-false}
+use Rattle.lists.proofs.TestLaws.{all-of}
 use Rattle.packing.proofs.ReportLaws.{rested-packs}
 use Rattle.book.specs.declared.Entry.{Entry}
 use Rattle.book.specs.declared.Pricing.{Pricing}
 use Rattle.book.specs.declared.Pricing.the-variants.{Fixed, Dark, Sliding}
 use Rattle.book.specs.Entries.{shownAs, display, displayed, against, lastNumber}
-use Rattle.book.specs.Look.{eligible, contra, hidden, hiddenWithin}
+use Rattle.book.specs.Look.{eligible, contra, bestHidden}
 use Rattle.soundness_theory.proofs.Facts.{PricedAs, EntryFacts, Clear, Sound}
 use Rattle.soundness_theory.proofs.FrontLaws.{if-any-contra}
 use Rattle.soundness_theory.proofs.KeepLaws.{here-facts, short-clear}
@@ -41,8 +42,9 @@ use Rattle.telling.proofs.PackLaws.{Packs}
 use Rattle.terms.specs.declared.Terms.{Terms}
 use Rattle.terms.specs.Terms.{marketOf}
 use Rattle.arrival.specs.Take.{bound, shownOnly}
-use Rattle.arrival.specs.Post.{pricesOf, pricingOf, asPosted, bars21, stopFor}
+use Rattle.arrival.specs.Post.{pricesOf, pricingOf, asPosted, hiddenFor, stopFor}
 use Rattle.arrival.proofs.TakeLaws.{Cleared}
+use Rattle.arrival.proofs.HiddenLaws.{hidden-beyond}
 
 -- ---- the bound, in the frame ----
 
@@ -77,7 +79,7 @@ module _ (k : Market) (e : Entry) where
 
 -- ---- nothing stops it ----
 
-pub may-rest : (a b c d : Bool) → firstStop a b c d ≡ 0 → (a ≡ false) × ((b ≡ false) × ((c ≡ false) × (d ≡ false)))
+pub may-rest : (a b c d : Bool) → firstHolding ((20, a) ∷ (21, b) ∷ (23, c) ∷ (22, d) ∷ []) ≡ 0 → (a ≡ false) × ((b ≡ false) × ((c ≡ false) × (d ≡ false)))
 may-rest a b c d h =
     let x = cond-zero a 20 (cond b 21 (cond c 23 (cond d 22 0))) (omega arith) h in
     let y = cond-zero b 21 (cond c 23 (cond d 22 0)) (omega arith) (x .1) in
@@ -117,21 +119,20 @@ module _ (t : Terms) (e : Entry) (l : List Entry) (left top : ℕ) (mk : MarketF
 
   -- at its limit, with nothing there: what is displayed there it has taken, unless 20 stopped it, and for what is not 21 would have
   at-limit : minds (e .kind) ≡ false → (not (eqb (away (marketOf t) (e .sell)) 0) && reaches (e .sell) (e .limit) (away (marketOf t) (e .sell))) ≡ false
-      → bars21 e l ≡ false → (i : ℕ) (y : Entry) → At l i y → against (e .sell) y ≡ true → seen (e .sell) (e .limit) < seen (e .sell) (y .working)
-  unfolding hiddenWithin
+      → holds (e .sell) (test21 (e .kind) (e .limit) (hiddenFor e l)) ≡ false → (i : ℕ) (y : Entry) → At l i y → against (e .sell) y ≡ true → seen (e .sell) (e .limit) < seen (e .sell) (y .working)
   at-limit mi b20 b21 i y at f = by (light (e .kind)) refl (displayed y) refl b21
     where
       far : eligible (e .sell) (shownOnly e) y ≡ true → seen (e .sell) (e .limit) < seen (e .sell) (y .working)
       far g = omega (arith, bound-limit (marketOf t) e high b20, taken mi .beyond i y at g)
 
-      by : (b : Bool) → light (e .kind) ≡ b → (v : Bool) → displayed y ≡ v → (b && any (hidden (e .sell) (e .limit)) l) ≡ false
+      by : (b : Bool) → light (e .kind) ≡ b → (v : Bool) → displayed y ≡ v
+          → ((b && not (eqb (cond b (bestHidden (e .sell) l) 0) 0)) && reaches (e .sell) (e .limit) (cond b (bestHidden (e .sell) l) 0)) ≡ false
           → seen (e .sell) (e .limit) < seen (e .sell) (y .working)
       by false q v w g = far (rw (f, q) refl)
       by true q true w g = far (rw (f, q, w) refl)
       by true q false w g =
-          let h : hidden (e .sell) (e .limit) y ≡ false =
-          all-at (λ (z : Entry). hidden (e .sell) (e .limit) z ≡ false) l i y (any-false (hidden (e .sell) (e .limit)) l g) at in
-          reaches-false (e .sell) (e .limit) (y .working) high (omega (arith, here-facts so i y at .works .high)) (rw (f, w) at h)
+          hidden-beyond (e .sell) l so (e .limit) high g i y
+          (record { there = at; faces = f; undisplayed = eqb-false (display y) (y .working) w })
 
   -- MMRP works at the bound, up to which it has taken all
   at-bound : minds (e .kind) ≡ false → sliding (e .kind) ≡ true → (i : ℕ) (y : Entry) → At l i y → against (e .sell) y ≡ true
@@ -152,15 +153,16 @@ module _ (t : Terms) (e : Entry) (l : List Entry) (left top : ℕ) (mk : MarketF
 
   -- WHAT NOTHING STOPS MAY REST
   pub fits : stopFor t e l ≡ 0 → Fits (t .m) left e l (pricesOf t e l)
-  unfolding stopFor stopped aim
+  unfolding stopFor aim
   fits h =
-      let r = may-rest (bars20 (e .kind) (e .sell) (e .limit) (away (marketOf t) (e .sell))) (bars21 e l)
-      (bars23 (t .m) (e .kind) (e .sell) (pricesOf t e l .display)) (bars22 (t .m) (t .k) (e .kind) (e .sell) (e .limit) (pricesOf t e l .display)) h in
+      let r = may-rest (holds (e .sell) (test20 (e .kind) (e .limit) (away (marketOf t) (e .sell))))
+      (holds (e .sell) (test21 (e .kind) (e .limit) (hiddenFor e l))) (holds (e .sell) (test23 (t .m) (e .kind) (e .sell) (pricesOf t e l .display)))
+      (holds (e .sell) (test22 (t .m) (t .k) (e .kind) (e .sell) (e .limit) (pricesOf t e l .display))) h in
       by (sliding (e .kind)) refl (r .0) (r .1 .0) (r .1 .1 .0)
     where
       by : (b : Bool) → sliding (e .kind) ≡ b
-          → (not b && (not (eqb (away (marketOf t) (e .sell)) 0) && reaches (e .sell) (e .limit) (away (marketOf t) (e .sell)))) ≡ false
-          → bars21 e l ≡ false
+          → ((not b && not (eqb (away (marketOf t) (e .sell)) 0)) && reaches (e .sell) (e .limit) (away (marketOf t) (e .sell))) ≡ false
+          → holds (e .sell) (test21 (e .kind) (e .limit) (hiddenFor e l)) ≡ false
           → (b && not (reaches (e .sell) ((cond b aim (record { display = e .limit; working = e .limit })) .display) (lastPrice (t .m) (e .sell)))) ≡ false
           → Fits (t .m) left e l (cond b aim (record { display = e .limit; working = e .limit }))
       by false q b20 b21 b23 = record {

@@ -1,22 +1,21 @@
 -- Which reasons there are: what stops a rest, 20 to 23; what rejects, 20 to 26; and that only quotes are rejected.
 -- Assumes nothing.
 use Prim.Native.Nat.{ℕ, zero, suc, _≤_}
-use mathlib.Core.Path.{_≡_, refl}
+use mathlib.Core.Path.{_≡_, refl, sym, _∙_}
 use mathlib.Core.Bool.{Bool, true, false, _&&_}
-use mathlib.Core.List.{List}
+use mathlib.Core.List.{List, [], _∷_, _++_}
 use native.Mathlib.Omega.{arith}
-use Rattle.prices.specs.Side.{away}
-use Rattle.prices.specs.Protect.{bars24, bars25, bars26, firstBar, protection}
-use Rattle.prices.specs.Post.{bars20, bars22, bars23, firstStop, stopped}
+use Rattle.prices.specs.Test.{answers}
+use Rattle.lists.specs.Tests.{All, firstHolding}
 use Rattle.lists.proofs.Bools.{cond-either}
+use Rattle.lists.proofs.FirstLaws.{first-none, first-front, first-behind}
 use Rattle.book.specs.declared.Entry.{Entry}
 use Rattle.book.specs.Entries.{quote}
-use Rattle.book.specs.Look.{national}
 use Rattle.terms.specs.declared.Terms.{Terms}
-use Rattle.terms.specs.Terms.{marketOf, guardOf}
+use Rattle.terms.specs.Terms.{marketOf}
 use Rattle.arrival.specs.Take.{took}
-use Rattle.arrival.specs.Post.{pricesOf, bars21, stopFor}
-use Rattle.arrival.specs.Arrive.{noneTraded, stopsAtOnce, protectionFor, orElse, rejection}
+use Rattle.arrival.specs.Post.{stopsIn, stopFor}
+use Rattle.arrival.specs.Arrive.{noneTraded, stopsAtOnce, barsIn, protectionFor, orElse, rejection}
 
 -- a reason, if there is one, is between these
 pub record Among (low high why : ℕ) : Type 0 where
@@ -26,33 +25,34 @@ pub record Among (low high why : ℕ) : Type 0 where
 none-among : (low high : ℕ) → Among low high 0
 none-among low high = record { most = omega arith; least = λ h. absurd (omega arith) }
 
+-- the first of some tests, and where none applies the first of those behind them
+pub or-else-first : (ts us : List (ℕ × Bool)) → All (λ (t : ℕ × Bool). 1 ≤ t .0) ts → orElse (firstHolding ts) (firstHolding us) ≡ firstHolding (ts ++ us)
+or-else-first ts us some = by (firstHolding ts) refl
+  where
+    by : (n : ℕ) → firstHolding ts ≡ n → orElse n (firstHolding us) ≡ firstHolding (ts ++ us)
+    by zero h = sym (first-behind ts us (first-none ts some h))
+    by (suc n) h = sym (first-front ts us (λ z. absurd (omega arith)) ∙ h)
+
+-- the first that applies of tests whose numbers are between these
+first-among : (low high : ℕ) → (ts : List (ℕ × Bool)) → All (λ (t : ℕ × Bool). (low ≤ t .0) × (t .0 ≤ high)) ts → Among low high (firstHolding ts)
+first-among low high [] a = none-among low high
+first-among low high (t ∷ ts) a =
+    cond-either (Among low high) (t .1) (t .0) (firstHolding ts) (λ q. record { most = a .0 .1; least = λ h. a .0 .0 })
+    (λ q. first-among low high ts (a .1))
+
 -- "20, .. 21, .. 23, .. 22"
 pub stop-among : (t : Terms) (e : Entry) (l : List Entry) → Among 20 23 (stopFor t e l)
-unfolding stopFor stopped
+unfolding stopFor
 stop-among t e l =
-    go (bars20 (e .kind) (e .sell) (e .limit) (away (marketOf t) (e .sell))) (bars21 e l) (bars23 (t .m) (e .kind) (e .sell) (pricesOf t e l .display))
-    (bars22 (t .m) (t .k) (e .kind) (e .sell) (e .limit) (pricesOf t e l .display))
-  where
-    go : (a b c d : Bool) → Among 20 23 (firstStop a b c d)
-    go true b c d = record { most = omega arith; least = λ h. omega arith }
-    go false true c d = record { most = omega arith; least = λ h. omega arith }
-    go false false true d = record { most = omega arith; least = λ h. omega arith }
-    go false false false true = record { most = omega arith; least = λ h. omega arith }
-    go false false false false = none-among 20 23
+    first-among 20 23 (answers (e .sell) (stopsIn t e l))
+    ((omega arith, omega arith), ((omega arith, omega arith), ((omega arith, omega arith), ((omega arith, omega arith), tt))))
 
 -- "25: .. 26: .. 24: .."
 pub protection-among : (t : Terms) (e : Entry) (l : List Entry) → Among 24 26 (protectionFor t e l)
-unfolding protectionFor protection
+unfolding protectionFor
 protection-among t e l =
-    cond-either (Among 24 26) (quote e) (protection (guardOf t) (e .sell) (national (e .sell) (away (marketOf t) (e .sell)) l) (e .limit)) 0
-    (λ q. go (bars25 (guardOf t) (e .sell) (e .limit)) (bars26 (guardOf t) (e .sell) (e .limit))
-    (bars24 (e .sell) (national (e .sell) (away (marketOf t) (e .sell)) l) (e .limit))) (λ q. none-among 24 26)
-  where
-    go : (a b c : Bool) → Among 24 26 (firstBar a b c)
-    go true b c = record { most = omega arith; least = λ h. omega arith }
-    go false true c = record { most = omega arith; least = λ h. omega arith }
-    go false false true = record { most = omega arith; least = λ h. omega arith }
-    go false false false = none-among 24 26
+    first-among 24 26 (answers (e .sell) (barsIn t e l))
+    ((omega arith, omega arith), ((omega arith, omega arith), ((omega arith, omega arith), tt)))
 
 pub at-once-among : (t : Terms) (e : Entry) (l : List Entry) → Among 20 23 (stopsAtOnce t e l)
 unfolding stopsAtOnce

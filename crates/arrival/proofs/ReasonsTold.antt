@@ -11,11 +11,12 @@ use Rattle.packing.specs.declared.report.Report.{Report}
 use Rattle.packing.specs.declared.report.Report.the-variants.{Noted, Rejected, Traded, Rested, Repriced, Cancelled}
 use Rattle.book.specs.declared.Entry.{Entry}
 use Rattle.soundness_theory.proofs.KeepLaws.{here-facts}
-use Rattle.soundness_theory.proofs.MarketFacts.{sound-for}
 use Rattle.terms.specs.declared.Terms.{Terms}
-use Rattle.arrival.specs.Arrive.{arrived}
+use Rattle.arrival.specs.Arrive.{arrived, tradesOf}
 use Rattle.arrival.specs.Asks.{Arriving}
-use Rattle.arrival.proofs.ArriveTells.{tradesOf, Was, arrived-says-why}
+use Rattle.arrival.proofs.EnterLaws.{facts-of}
+use Rattle.arrival.proofs.ArriveKeeps.{left-sound}
+use Rattle.arrival.proofs.ArriveTells.{Was, arrived-says-why}
 use Rattle.arrival.proofs.StopReasons.{StoppedIn, stop-first, RejectedFor, rejectOrder, rejection-first}
 
 -- what a report says of its reason, for an arrival of e before the book l. Any other entry that it cancels is a quote of its maker, with 27, 29 or 30, which
@@ -32,15 +33,14 @@ TellsWhy t e l (Cancelled why s party number limit quantity) =
 pub reasons-true : {t : Terms} {e : Entry} {l : List Entry} → Arriving t e l → All (TellsWhy t e l) (arrived t e l .records)
 reasons-true {t} {e} {l} a =
     arrived-says-why t e l (TellsWhy t e l) (record {
-      rejects = λ q why some h. rejection-first t e l .told why some h;
+      rejects = λ q why some h. rejection-first t e l (facts-of a .1) .told why some h;
       cancels = λ q why own s x o w same. absurd (other x w same);
       trades = λ mi y q w. tt;
       rests = λ left h. tt;
-      stops = λ why left r same. stop-first t e (tradesOf t e l .final .book) .told why (r .stops) (r .reason);
+      stops = λ why left r same. stop-first t e (tradesOf t e l .final .book) (left-sound a) .told why (r .stops) (r .reason);
     })
   where
     -- what rested has another number
     other : (x : Entry) → Was l x → x .number ≡ e .number → ⊥
     other x w same =
-        let so = sound-for (record { top = t .given; market = a .market; entries = a .entries }) .1 in
-        omega (arith, here-facts so (w .place) (w .entry) (w .there) .given, w .number, same, a .number)
+        omega (arith, here-facts (facts-of a .1) (w .place) (w .entry) (w .there) .given, w .number, same, a .number)

@@ -3,10 +3,11 @@
 -- Assumes nothing.
 use Prim.Native.Nat.{ℕ, zero, suc}
 use mathlib.Core.Bool.{Bool, true, false, cond, not, _&&_, _||_}
-use mathlib.Core.List.{List, [], _∷_}
+use mathlib.Core.List.{List, [], _∷_, _++_}
 use lib.Dec.{eqb}
 use Rattle.prices.specs.Side.{away}
-use Rattle.prices.specs.Protect.{protection}
+use Rattle.prices.specs.Test.{Test, onlyFor, reasonOf}
+use Rattle.prices.specs.Protect.{bars}
 use Rattle.lists.specs.Run.{Ran, still, andThen}
 use Rattle.packing.specs.declared.report.Report.{Report}
 use Rattle.book.specs.declared.Entry.{Entry}
@@ -18,7 +19,7 @@ use Rattle.terms.specs.declared.Terms.{Terms}
 use Rattle.terms.specs.Terms.{marketOf, guardOf}
 use Rattle.arrival.specs.Cancel.{cutQuote}
 use Rattle.arrival.specs.Take.{Taking, took}
-use Rattle.arrival.specs.Post.{pricesOf, asPosted, stopFor}
+use Rattle.arrival.specs.Post.{pricesOf, asPosted, stopsIn, stopFor}
 
 -- a report of its own, and no change
 abbrev pub reported : Report → List Entry → Ran (List Entry) Report
@@ -48,6 +49,13 @@ rejectedBy why e l =
 -- "27 replaced"
 abbrev pub replaced : Entry → List Entry → Ran (List Entry) Report
 replaced e l = ofQuotes e (cutQuote 27 (e .party) (e .sell)) l
+
+-- its trades, once the quote that it replaces is gone; and the book that they leave, in which what is left would post
+abbrev pub tradesOf : Terms → Entry → List Entry → Ran Taking Report
+tradesOf t e l = took (marketOf t) e (replaced e l .final)
+
+abbrev pub bookLeft : Terms → Entry → List Entry → List Entry
+bookLeft t e l = tradesOf t e l .final .book
 
 -- what is left rests, at the end of the rank
 abbrev pub posted : Terms → Entry → ℕ → List Entry → Ran (List Entry) Report
@@ -82,12 +90,16 @@ stopsAtOnce t e l = cond (quote e && noneTraded (took (marketOf t) e l .records)
 
 -- ---- "Price protection comes first, for quotes only" ----
 
-abbrev pub protectionBefore : Terms → Entry → ℕ → ℕ
-protectionBefore t e best = cond (quote e) (protection (guardOf t) (e .sell) best (e .limit)) 0
-
 -- before the NBO or NBB that stands against it
+abbrev pub barsBefore : Terms → Entry → ℕ → List Test
+barsBefore t e best = onlyFor (quote e) (bars (guardOf t) (e .sell) best (e .limit))
+
+-- which is that of the book
+abbrev pub barsIn : Terms → Entry → List Entry → List Test
+barsIn t e l = barsBefore t e (national (e .sell) (away (marketOf t) (e .sell)) l)
+
 unfoldable pub protectionFor : Terms → Entry → List Entry → ℕ
-protectionFor t e l = protectionBefore t e (national (e .sell) (away (marketOf t) (e .sell)) l)
+protectionFor t e l = reasonOf (e .sell) (barsIn t e l)
 
 -- why an arrival is rejected; 0 where it is not
 abbrev pub orElse : ℕ → ℕ → ℕ
@@ -108,3 +120,13 @@ arrived t e l = arrivedAs t e l (rejection t e l)
 -- "25 and 26 .. block that maker until kind 12"
 unfoldable pub blocks : Terms → Entry → List Entry → Bool
 blocks t e l = bothQuotes (rejection t e l)
+
+-- ---- THE TESTS THAT ARE PUT TO AN ENTRY ON ITS ARRIVAL, in document 01's order: 25, 26, 24, 20, 21, 23, 22 ----
+
+-- price protection before the NBO or NBB, the others before the book in which it would post
+abbrev pub testsBefore : Terms → Entry → ℕ → List Entry → List Test
+testsBefore t e best posting = barsBefore t e best ++ stopsIn t e posting
+
+-- price protection before the book that the message found
+abbrev pub testsPut : Terms → Entry → List Entry → List Entry → List Test
+testsPut t e found posting = barsIn t e found ++ stopsIn t e posting

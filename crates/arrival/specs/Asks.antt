@@ -10,6 +10,7 @@ use lib.ListN.{length}
 use Rattle.kinds.specs.Kinds.{enters}
 use Rattle.prices.specs.Step.{legal}
 use Rattle.prices.specs.Side.{reaches, away}
+use Rattle.prices.specs.Protect.{Cents}
 use Rattle.lists.specs.Choose.{Found, nowhere, found}
 use Rattle.lists.specs.Run.{Step, stop, go, Ran}
 use Rattle.telling.specs.Tell.{traded}
@@ -31,7 +32,7 @@ use Rattle.arrival.specs.Post.{stopFor, Posts}
 use Rattle.arrival.specs.declared.take.Next.{Next}
 use Rattle.arrival.specs.declared.take.Next.the-variants.{Nothing, With}
 use Rattle.arrival.specs.declared.Facing.{Facing}
-use Rattle.arrival.specs.Arrive.{replaced, posted, finished, noneTraded, entered, arrived}
+use Rattle.arrival.specs.Arrive.{replaced, bookLeft, posted, finished, noneTraded, entered, arrived}
 
 pub record Arriving (t : Terms) (e : Entry) (l : List Entry) : Type 0 where
   pub market : soundMarket (marketOf t) ≡ true
@@ -131,3 +132,13 @@ pub record Finishes (t : Terms) (e : Entry) (c : ℕ) (b : Book) (left : ℕ) (r
   pub posts : Posts t e b c
   pub space : b .count < 64
   pub roomy : Roomy room n (finished t e left (stopFor t e (entriesOf b)) (entriesOf b) .records)
+
+-- what its tests are measured by: an NBO or NBB that is none or legal, and a book in which it would post
+pub record Measures (t : Terms) (e : Entry) (f : Facing) (b : Book) : Type 0 where
+  pub posts : Posts t e b (f .contra)
+  pub cents : Cents (f .national) (e .limit)
+
+-- the book in which what is left would post, and that its tests may be put to it
+pub record LeftIn (t : Terms) (e : Entry) (f : Facing) (b : Book) (d : Book) : Type 0 where
+  pub left : entriesOf d ≡ bookLeft t e (entriesOf b)
+  pub posts : Posts t e d (f .contra)

@@ -2,20 +2,21 @@
 -- Assumes nothing.
 use Prim.Native.Nat.{ℕ, _≤_}
 use mathlib.Core.Path.{_≡_}
-use mathlib.Core.Bool.{Bool, true, cond, _&&_}
+use mathlib.Core.Bool.{true, cond}
 use mathlib.Core.List.{List}
 use Rattle.prices.specs.declared.Prices.{Prices}
 use Rattle.prices.specs.Side.{away}
 use Rattle.kinds.specs.Kinds.{sliding, minds, dark, light}
 use Rattle.prices.specs.Aims.{aims, Bounds}
-use Rattle.prices.specs.Post.{stopped}
+use Rattle.prices.specs.Test.{Test, reasonOf}
+use Rattle.prices.specs.Post.{stops}
 use Rattle.book.specs.declared.Entry.{Entry}
 use Rattle.book.specs.declared.Pricing.{Pricing}
 use Rattle.book.specs.declared.Pricing.the-variants.{Fixed, Dark, Sliding}
 use Rattle.book.specs.declared.Book.{Book}
 use Rattle.book.specs.Entries.{withQuantity, withPrices}
 use Rattle.book.specs.Shape.{entriesOf, WellFormed}
-use Rattle.book.specs.Look.{contra, hiddenWithin}
+use Rattle.book.specs.Look.{contra, bestHidden}
 use Rattle.terms.specs.declared.Terms.{Terms}
 use Rattle.terms.specs.Terms.{marketOf}
 
@@ -35,14 +36,18 @@ pricingOf kind display = cond (sliding kind) (Sliding display) (cond (dark kind)
 abbrev pub asPosted : Entry → ℕ → Prices → Entry
 asPosted e left p = withQuantity left (withPrices (p .working) (pricingOf (e .kind) (p .display)) e)
 
--- "21, MMLO and an undisplayed sell works at L or less"
-abbrev pub bars21 : Entry → List Entry → Bool
-bars21 e l = light (e .kind) && hiddenWithin (e .sell) (e .limit) l
+-- the best price at which undisplayed interest works against it, 0 for none: asked for an MMLO alone
+abbrev pub hiddenFor : Entry → List Entry → ℕ
+hiddenFor e l = cond (light (e .kind)) (bestHidden (e .sell) l) 0
 
--- why what is left may not rest; 0 if it may
+-- the tests put to what is left, before the book in which it would post
+abbrev pub stopsIn : Terms → Entry → List Entry → List Test
+stopsIn t e l =
+    stops (t .m) (t .k) (e .kind) (e .sell) (e .limit) (away (marketOf t) (e .sell)) (hiddenFor e l) (pricesOf t e l .display)
+
+-- why it may not rest; 0 if it may
 unfoldable pub stopFor : Terms → Entry → List Entry → ℕ
-stopFor t e l =
-    stopped (t .m) (t .k) (e .kind) (e .sell) (e .limit) (away (marketOf t) (e .sell)) (bars21 e l) (pricesOf t e l .display)
+stopFor t e l = reasonOf (e .sell) (stopsIn t e l)
 
 -- what the functions ask of their callers: a well-formed book, K as setup allows it, an M that is listed, and an away price and a contra price c that are none
 -- or legal; c is the C of the book for a kind that minds it, and any other kind may have traded since c was seen

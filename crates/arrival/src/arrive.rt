@@ -28,6 +28,7 @@ use terms::guard_of;
 use terms::market_of;
 ghost use mathlib.Core.Path.{_≡_};
 ghost use mathlib.Core.Bool.{not};
+ghost use Rattle.prices.specs.Test.{reasonOf};
 ghost use Rattle.prices.specs.Protect.{Cents};
 ghost use Rattle.book.specs.Shape.{entriesOf, WellFormed};
 ghost use Rattle.book.specs.Look.{rankOf, quoteIn};
@@ -35,15 +36,18 @@ ghost use Rattle.telling.specs.Stage.{Staged};
 ghost use Rattle.terms.specs.Terms.{marketOf};
 ghost use Rattle.arrival.specs.Take.{took};
 ghost use Rattle.arrival.specs.Post.{stopFor};
-ghost use Rattle.arrival.specs.Arrive.{protectionBefore, stopsAtOnce, rejection, rejectedBy, replaced, posted, cancelledRest, finished, entered, arrived};
+ghost use Rattle.arrival.specs.Arrive.{barsBefore, stopsAtOnce, rejection, rejectedBy, replaced, posted, cancelledRest, finished, entered, arrived};
 ghost use Rattle.book.specs.Entries.{withQuantity};
 ghost use Rattle.arrival.specs.Cancel.{Asks};
-ghost use Rattle.arrival.specs.Asks.{trades, Enters, EntersTrading, Arrives, Goes, Finishes, Rests, TakesOn, TookAs};
+ghost use Rattle.arrival.specs.Asks.{trades, Enters, EntersTrading, Arrives, Goes, Finishes, Rests, TakesOn, TookAs, LeftIn};
+
+// Bytes for the reports of an arrival that is not rejected: they are at most 67.
+const ARRIVAL: usize = 67 * 14;
 
 // Price protection before this NBO or NBB, for quotes only: the reason to reject, or 0.
 fn protection_for(t: Terms, e: Entry, national: u32) -> u32
     requires { ⌜ Cents national (e .limit) ⌝ }
-    ensures { λ r. ⌜ r ≡ protectionBefore t e national ⌝ }
+    ensures { λ r. ⌜ r ≡ reasonOf (e .sell) (barsBefore t e national) ⌝ }
 {
     if !is_quote(e) {
         return 0;
@@ -211,6 +215,35 @@ fn take(
         return b;
     }
     take_all(b, e, bound_of(market_of(t), e), left, room, n)
+}
+
+// The book in which what is left of it would post: the quote that it replaces gone, and its trades made.
+fn trade_all(
+    b: Book,
+    t: Terms,
+    e: Entry,
+    f: Facing,
+    trading: bool,
+    room: &mut [u8],
+    n: &mut usize,
+) -> Book
+    requires { ⌜ Goes t e f trading b (now room) (now n) ⌝ }
+    ensures { λ r. ⌜ LeftIn t e f b r ⌝ }
+{
+    let c = replace(b, e, room, n);
+    let mut left = e.quantity;
+    take(c, t, e, trading, &mut left, room, n)
+}
+
+// The same, with a room of its own for reports that nobody reads.
+pub fn book_left(b: Book, t: Terms, e: Entry, f: Facing) -> Book
+    requires { ⌜ Enters t e f b ⌝ }
+    ensures { λ r. ⌜ LeftIn t e f b r ⌝ }
+{
+    let trading = is_trading(b, t, e, f);
+    let mut room = [0u8; ARRIVAL];
+    let mut n = 0usize;
+    trade_all(b, t, e, f, trading, &mut room, &mut n)
 }
 
 // The quote it replaces goes; trades; what is left rests or is cancelled.

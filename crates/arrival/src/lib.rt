@@ -2,6 +2,7 @@
 pub mod arrive;
 pub mod cancel;
 pub mod post;
+pub mod reason;
 pub mod sweep;
 pub mod take;
 

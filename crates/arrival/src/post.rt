@@ -3,7 +3,7 @@ use book::Book;
 use book::Entry;
 use book::Pricing;
 use book::entries::kind_of;
-use book::look::is_hidden_within;
+use book::look::best_hidden;
 use kinds::is_dark;
 use kinds::is_light;
 use kinds::is_sliding;
@@ -18,7 +18,7 @@ ghost use Rattle.prices.specs.Side.{away};
 ghost use Rattle.prices.specs.Aims.{Bounds};
 ghost use Rattle.book.specs.Shape.{entriesOf, WellFormed};
 ghost use Rattle.terms.specs.Terms.{marketOf};
-ghost use Rattle.arrival.specs.Post.{pricesBefore, pricingOf, asPosted, bars21, stopFor, Posts};
+ghost use Rattle.arrival.specs.Post.{pricesBefore, pricingOf, asPosted, hiddenFor, stopFor, Posts};
 
 // The prices at which it would rest, before this contra price.
 pub fn prices_of(t: Terms, e: Entry, contra: u32) -> Prices
@@ -65,14 +65,15 @@ pub fn rest_of(e: Entry, left: u32, p: Prices) -> Entry
     }
 }
 
-fn is_barred_21(b: Book, e: Entry) -> bool
+// The best price at which undisplayed interest works against it, 0 for none: an MMLO alone asks for it.
+pub fn hidden_for(b: Book, e: Entry) -> u32
     requires { ⌜ WellFormed b ⌝ }
-    ensures { λ r. ⌜ r ≡ bars21 e (entriesOf b) ⌝ }
+    ensures { λ r. ⌜ r ≡ hiddenFor e (entriesOf b) ⌝ }
 {
     if is_light(kind_of(e)) {
-        return is_hidden_within(b, e.sell, e.limit);
+        return best_hidden(b, e.sell);
     }
-    false
+    0
 }
 
 // The reason why it may not rest, or 0.
@@ -81,7 +82,7 @@ pub fn stop_for(b: Book, t: Terms, e: Entry, contra: u32) -> u32
     ensures { λ r. ⌜ r ≡ stopFor t e (entriesOf b) ⌝ }
 {
     let p = prices_of(t, e, contra);
-    let hidden = is_barred_21(b, e);
+    let hidden = hidden_for(b, e);
     let away = away_of(market_of(t), e.sell);
     stop_of(
         t.m,

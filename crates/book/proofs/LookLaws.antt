@@ -2,13 +2,13 @@
 -- Assumes nothing.
 use Prim.Native.Nat.{ℕ, _+_, _*_, _≤_, _<_}
 use mathlib.Core.Path.{_≡_, refl, ap, _∙_}
-use mathlib.Core.Bool.{Bool, true, false, cond}
+use mathlib.Core.Bool.{Bool, true, false, cond, not, _&&_}
 use mathlib.Core.List.{List, [], _∷_, _++_}
 use mathlib.Core.Logic.{_⊎_, inl, inr, ⊎-elim}
 use native.Mathlib.Omega.{arith}
-use lib.Dec.{ltb}
+use lib.Dec.{eqb, ltb}
 use lib.ListN.{length, getD}
-use borrow.Author.Tests.{lt-ltb, ltb-true, ltb-false}
+use borrow.Author.Tests.{lt-ltb, ltb-true, ltb-false, eqb-true}
 use Rattle.prices.specs.Side.{nearer}
 use Rattle.lists.specs.Places.{At}
 use Rattle.lists.specs.Choose.{scan, Found, nowhere, found, keyed}
@@ -21,7 +21,7 @@ use Rattle.book.specs.declared.Front.{Front}
 use Rattle.book.specs.declared.Least.{Least}
 use Rattle.book.specs.Entries.{display, displayed, against, ownEntry, quoteOf}
 use Rattle.book.specs.Look.{noKey, rankOf, rankHeld, lowerKey, cost, priority, eligible, bestContra, entryOf, quoteIn}
-use Rattle.book.specs.Look.{lowest, working, facing, nearest, contra, frontOf, contraIn, frontTurn, national}
+use Rattle.book.specs.Look.{lowest, working, hidden, facing, nearest, contra, bestHidden, frontOf, contraIn, frontTurn, national}
 use Rattle.book.proofs.OfferLaws.{Best, Alone, best-alone, best-nearer, best-same}
 
 -- THE BEST CONTRA ENTRY has the best price of all that are eligible; of those at its price none is displayed unless it is; and of those that
@@ -141,6 +141,27 @@ module _ (price : Entry → ℕ) (s : Bool) where
 -- C, THE BEST WORKING PRICE of the entries that face side s, dark included
 pub contra-price-tells : (s : Bool) (l : List Entry) → Best s (Offered working s l) (contra s l)
 contra-price-tells s l = nearest-offered working s l
+
+-- THE BEST UNDISPLAYED PRICE of the entries that face side s; a turn of the scan for it
+pub hidden-price-tells : (s : Bool) (l : List Entry) → Best s (Offered hidden s l) (bestHidden s l)
+hidden-price-tells s l = nearest-offered hidden s l
+
+pub hidden-turn-is : (s : Bool) (q : ℕ) (e : Entry) (b : Bool) → (against s e && not (displayed e)) ≡ b
+    → cond b (nearer s q (e .working)) q ≡ facing hidden s q e
+unfolding nearer
+hidden-turn-is s q e b h = by (against s e) (displayed e) b h
+  where
+    none : (z : Bool) → eqb q 0 ≡ z → q ≡ cond z 0 q
+    none true f = eqb-true q 0 f
+    none false f = refl
+
+    by : (a d b : Bool) → (a && not d) ≡ b → cond b (nearer s q (e .working)) q ≡ cond a (nearer s q (cond d 0 (e .working))) q
+    by false d true h = clash h refl
+    by false d false h = refl
+    by true true true h = clash h refl
+    by true true false h = none (eqb q 0) refl
+    by true false true h = refl
+    by true false false h = clash refl h
 
 -- both of the front's prices, by one scan
 front-apart : (front : Front) (j : ℕ) (l : List Entry)

@@ -5,9 +5,8 @@ use mathlib.Core.Path.{_≡_}
 use mathlib.Core.Bool.{Bool, true, false, cond, not, _&&_, _||_}
 use mathlib.Core.List.{List}
 use lib.Dec.{ltb}
-use Rattle.prices.specs.Side.{reaches, nearer}
+use Rattle.prices.specs.Side.{nearer}
 use Rattle.lists.specs.Choose.{scan, Found, nowhere, found, first, lesser, never}
-use Rattle.lists.specs.Tests.{any}
 use Rattle.book.specs.declared.Entry.{Entry}
 use Rattle.book.specs.declared.Front.{Front}
 use Rattle.book.specs.declared.Least.{Least}
@@ -88,12 +87,12 @@ frontTurn front e = record { bid = facing working true (front .bid) e; offer = f
 abbrev pub national : Bool → ℕ → List Entry → ℕ
 national s a l = nearest display s a l
 
--- 21: "an undisplayed sell works at L or less"
-abbrev pub hidden : Bool → ℕ → Entry → Bool
-hidden s limit e = against s e && (not (displayed e) && reaches s limit (e .working))
+-- 21: "an undisplayed sell": the price at which it works, none of one that is displayed; and the best such price
+abbrev pub hidden : Entry → ℕ
+hidden e = cond (displayed e) 0 (e .working)
 
-unfoldable pub hiddenWithin : Bool → ℕ → List Entry → Bool
-hiddenWithin s limit l = any (hidden s limit) l
+abbrev pub bestHidden : Bool → List Entry → ℕ
+bestHidden s l = nearest hidden s 0 l
 
 -- ---- whom a message names ----
 

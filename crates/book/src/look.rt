@@ -6,7 +6,6 @@ use crate::Least;
 use crate::Rank;
 use crate::entries::is_against;
 use crate::entries::is_displayed;
-use prices::side::is_reaching;
 use prices::side::nearer_of;
 use prices::step::less;
 ghost use mathlib.Core.Path.{_≡_};
@@ -14,7 +13,7 @@ ghost use mathlib.Core.Bool.{true, cond};
 ghost use Prim.Native.Nat.{_<_};
 ghost use Rattle.book.specs.Shape.{entriesOf, WellFormed};
 ghost use Rattle.book.specs.Look.{noKey, cost, priority, eligible, bestContra, rankOf, lowerKey, noneMet, rankHeld};
-ghost use Rattle.book.specs.Look.{Sooner, working, facing, contraIn, frontOf, frontTurn, hidden, hiddenWithin};
+ghost use Rattle.book.specs.Look.{Sooner, working, facing, contraIn, frontOf, frontTurn, hidden, bestHidden};
 ghost use Rattle.book.specs.Entries.{displayed};
 ghost use Rattle.lists.specs.Choose.{keyed};
 
@@ -160,24 +159,27 @@ pub fn contra_of(front: Front, sell: bool) -> u32
     if sell { front.bid } else { front.offer }
 }
 
-pub fn is_hidden(sell: bool, limit: u32, e: Entry) -> bool
-    ensures { λ r. ⌜ r ≡ hidden sell limit e ⌝ }
+// A turn of a scan for the best price at which undisplayed interest works against a side.
+fn hidden_turn(sell: bool, q: u32, e: Entry) -> u32
+    ensures { λ r. ⌜ r ≡ facing hidden sell q e ⌝ }
 {
-    is_against(sell, e) & (!is_displayed(e) & is_reaching(sell, limit, e.working))
+    if is_against(sell, e) & !is_displayed(e) {
+        return nearer_of(sell, q, e.working);
+    }
+    q
 }
 
-// Whether an undisplayed contra entry works at the limit or better.
-pub fn is_hidden_within(b: Book, sell: bool, limit: u32) -> bool
+// The best price at which undisplayed interest works against a side, 0 for none.
+pub fn best_hidden(b: Book, sell: bool) -> u32
     requires { ⌜ WellFormed b ⌝ }
-    ensures { λ r. ⌜ r ≡ hiddenWithin sell limit (entriesOf b) ⌝ }
+    ensures { λ r. ⌜ r ≡ bestHidden sell (entriesOf b) ⌝ }
 {
     let n = b.count;
+    let mut best = 0u32;
     let mut i = 0usize;
     while i < n {
-        if is_hidden(sell, limit, b.entries[i]) {
-            return true;
-        }
+        best = hidden_turn(sell, best, b.entries[i]);
         i += 1;
     }
-    false
+    best
 }

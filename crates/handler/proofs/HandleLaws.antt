@@ -3,20 +3,21 @@
 use Prim.Native.Nat.{ℕ, _+_, _≤_, _<_}
 use mathlib.Core.Path.{_≡_, refl, sym, ap, ap₂, _∙_, subst}
 use mathlib.Core.Bool.{Bool, true, false, cond, not, _&&_, _||_}
-use mathlib.Core.List.{List}
+use mathlib.Core.List.{List, [], _∷_}
 use native.Mathlib.Omega.{arith}
 use lib.Dec.{eqb, leb}
 use lib.ListN.{length, getD}
 use borrow.Author.Tests.{leb-false, le-leb, lt-leb, ne-eqb}
 use Rattle.lists.specs.Choose.{Found, nowhere, found}
-use Rattle.lists.specs.Tests.{any}
+use Rattle.lists.specs.Tests.{any, firstHolding}
 use Rattle.soundness.specs.declared.Check.{Check}
 use Rattle.soundness.specs.Summary.{seat, isFound, Summary}
 use Rattle.soundness.proofs.SummaryLaws.{any-quote, seat-tells, faced-contra, shown-national}
 use Rattle.book.specs.declared.Entry.{Entry}
 use Rattle.book.specs.Shape.{entriesOf}
 use Rattle.prices.specs.Side.{away}
-use Rattle.prices.specs.Protect.{bars24, bars25, bars26, firstBar, protection}
+use Rattle.prices.specs.Test.{holds}
+use Rattle.prices.specs.Protect.{test24, test25, test26}
 use Rattle.book.specs.Entries.{quote, quoteOf, lastNumber}
 use Rattle.book.specs.Look.{rankOf, quoteIn, national}
 use Rattle.terms.specs.declared.Terms.{Terms}
@@ -194,20 +195,20 @@ same-facing p q = λ i. record { contra = p i; national = q i }
 
 -- 25 and 26 are told by the series' numbers and the limit alone
 pub blocks-by : (t : Terms) (e : Entry) (l : List Entry) → quote e ≡ true
-    → (bars25 (guardOf t) (e .sell) (e .limit) || bars26 (guardOf t) (e .sell) (e .limit)) ≡ blocks t e l
-unfolding blocks rejection protectionFor protection
+    → (holds (e .sell) (test25 (guardOf t) (e .sell) (e .limit)) || holds (e .sell) (test26 (guardOf t) (e .sell) (e .limit))) ≡ blocks t e l
+unfolding blocks rejection protectionFor
 blocks-by t e l q =
-    rw q (by (bars25 (guardOf t) (e .sell) (e .limit)) (bars26 (guardOf t) (e .sell) (e .limit))
-    (bars24 (e .sell) (national (e .sell) (away (marketOf t) (e .sell)) l) (e .limit)) (stopsAtOnce t e l) (at-once-among t e l .most))
+    rw q (by (holds (e .sell) (test25 (guardOf t) (e .sell) (e .limit))) (holds (e .sell) (test26 (guardOf t) (e .sell) (e .limit)))
+    (holds (e .sell) (test24 (e .sell) (national (e .sell) (away (marketOf t) (e .sell)) l) (e .limit))) (stopsAtOnce t e l) (at-once-among t e l .most))
   where
-    by : (a b c : Bool) (why : ℕ) → why ≤ 23 → (a || b) ≡ bothQuotes (orElse (firstBar a b c) why)
+    by : (a b c : Bool) (why : ℕ) → why ≤ 23 → (a || b) ≡ bothQuotes (orElse (firstHolding ((25, a) ∷ (26, b) ∷ (24, c) ∷ [])) why)
     by true b c why h = refl
     by false true c why h = refl
     by false false true why h = refl
     by false false false why h = sym (rw (ne-eqb why 25 (λ z. omega (arith, z)), ne-eqb why 26 (λ z. omega (arith, z))) refl)
 
-pub blocking-quote : (t : Terms) (a : Ask) (b25 b26 : Bool) → quotes (a .kind) ≡ true → b25 ≡ bars25 (guardOf t) (a .sell) (a .price)
-    → b26 ≡ bars26 (guardOf t) (a .sell) (a .price) → (l : List Entry) → (b25 || b26) ≡ (quotes (a .kind) && blocks t (comer (t .given) a) l)
+pub blocking-quote : (t : Terms) (a : Ask) (b25 b26 : Bool) → quotes (a .kind) ≡ true → b25 ≡ holds (a .sell) (test25 (guardOf t) (a .sell) (a .price))
+    → b26 ≡ holds (a .sell) (test26 (guardOf t) (a .sell) (a .price)) → (l : List Entry) → (b25 || b26) ≡ (quotes (a .kind) && blocks t (comer (t .given) a) l)
 blocking-quote t a b25 b26 k p q l =
     ap₂ _||_ p q ∙ blocks-by t (comer (t .given) a) l k
     ∙ sym (ap (λ (b : Bool). b && blocks t (comer (t .given) a) l) k)

@@ -34,13 +34,13 @@ use Rattle.settling_theory.proofs.Stays.{TradesOrMoves, settled-stays}
 use Rattle.terms.specs.Terms.{marketOf}
 use Rattle.arrival.specs.Cancel.{cutQuote}
 use Rattle.arrival.specs.Take.{Taking}
-use Rattle.arrival.specs.Arrive.{replaced, arrived}
+use Rattle.arrival.specs.Arrive.{replaced, arrived, tradesOf}
 use Rattle.arrival.proofs.ReasonLaws.{rejection-among, rejected-quote}
 use Rattle.arrival.proofs.TakeLaws.{took-all}
 use Rattle.arrival.proofs.CutLaws.{OtherThan, quote-all}
 use Rattle.arrival.proofs.Leaves.{Rests, cancels, quote-leaves}
 use Rattle.arrival.proofs.Stays.{took-stays, order-stays}
-use Rattle.arrival.proofs.ArriveTells.{RestStopped, tradesOf, arrived-says-why}
+use Rattle.arrival.proofs.ArriveTells.{RestStopped, arrived-says-why}
 use Rattle.arrival.proofs.ForTheClass as arriving
 use Rattle.series.specs.declared.Series.{Series}
 use Rattle.handler.specs.declared.Ask.{Ask}

@@ -21,10 +21,9 @@ use Rattle.book.specs.Look.{quoteIn}
 use Rattle.telling.specs.Tell.{rejected, cancelled}
 use Rattle.telling.proofs.Staying.{Numbered, TradeNames}
 use Rattle.settling_theory.proofs.Stays.{TradesOrMoves}
-use Rattle.arrival.specs.Arrive.{replaced, noneTraded}
+use Rattle.arrival.specs.Arrive.{replaced, noneTraded, tradesOf}
 use Rattle.arrival.proofs.CutLaws.{OtherThan}
 use Rattle.arrival.proofs.Leaves.{cancels}
-use Rattle.arrival.proofs.ArriveTells.{tradesOf}
 use Rattle.series.specs.declared.Series.{Series}
 use Rattle.handler.specs.declared.Ask.{Ask}
 use Rattle.handler.specs.Accept.{comer}

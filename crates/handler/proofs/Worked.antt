@@ -17,13 +17,12 @@ use Rattle.prices.specs.Side.{keen, meek, reaches, nearer}
 use Rattle.prices.specs.Step.{mpv, onGrid, legal, noneOrLegal, back, lastPrice, apart, allowed}
 use Rattle.kinds.specs.Kinds.{rowOf}
 use Rattle.prices.specs.Aims.{minded, upTo, shortOf, aimDisplay, aimWorking}
-use Rattle.prices.specs.Post.{stopped}
-use Rattle.prices.specs.Protect.{figures24, limited24, protection}
+use Rattle.prices.specs.Protect.{figures24, limited24}
 use Rattle.prices.specs.Rest.{marketable, restingPrices, atRest, stirsAt, slides}
 use Rattle.prices.specs.Ease.{easedTo, eases}
 use Rattle.book.specs.Shape.{entriesOf, bookOf}
 use Rattle.book.specs.Change.{hit, hitBoth}
-use Rattle.book.specs.Look.{cost, priority, bestContra, nearest, hiddenWithin, quoteIn, lowest}
+use Rattle.book.specs.Look.{cost, priority, bestContra, nearest, quoteIn, lowest}
 use Rattle.soundness_theory.specs.Sound.{pricedAs, soundEntry, soundPair, soundEntries, soundBook}
 use Rattle.settling_theory.specs.Settle.{anyStirs, nextEase, easings, nextStir, stirrings, eased, stirred, settled, stirring}
 use Rattle.arrival.specs.Cancel.{cut}
@@ -104,8 +103,8 @@ pub record Worked : Type 0 where
 
 pub worked : Worked
 unfolding without all any pairs scan first still leading runFor ran thingOf unpackOf byKind keen meek reaches nearer mpv onGrid legal noneOrLegal back
-    lastPrice apart allowed rowOf minded upTo shortOf aimDisplay aimWorking stopped figures24 limited24 protection marketable restingPrices atRest stirsAt
-    slides easedTo eases entriesOf bookOf hit hitBoth cost priority bestContra nearest hiddenWithin quoteIn lowest pricedAs soundEntry soundPair soundEntries
+    lastPrice apart allowed rowOf minded upTo shortOf aimDisplay aimWorking figures24 limited24 marketable restingPrices atRest stirsAt
+    slides easedTo eases entriesOf bookOf hit hitBoth cost priority bestContra nearest quoteIn lowest pricedAs soundEntry soundPair soundEntries
     soundBook nextEase easings nextStir stirrings eased stirred settled cut nextTake chances taken took stopFor rejectedBy entered stopsAtOnce protectionFor
     rejection arrived soundTerms soundPhase soundSeries refusalOf ownPart termsAfter done anyStirs
 worked = record { sound = refl; settled-before = refl; read = refl; passes = refl; moves = refl; held = refl; freed = refl }

@@ -117,7 +117,7 @@ fn note_phase(b: Book, phase: u32, room: &mut [u8], n: &mut usize) -> Book
 }
 
 // What a side faces, by what the test of the series has seen.
-fn facing_of(check: Check, t: Terms, sell: bool) -> Facing
+pub fn facing_of(check: Check, t: Terms, sell: bool) -> Facing
     ensures { λ r. ⌜ r ≡ facingBy check t sell ⌝ }
 {
     let shown = price_shown(check, sell);
@@ -244,7 +244,7 @@ fn answer_event(series: Series, check: Check, event: Event, room: &mut [u8]) -> 
 }
 
 // The first of two refusals whose test holds.
-fn first_of(one: bool, number: u32, other: bool, next: u32) -> u32
+pub fn first_of(one: bool, number: u32, other: bool, next: u32) -> u32
     ensures { λ r. ⌜ r ≡ firstOf one number other next ⌝ }
 {
     if one {

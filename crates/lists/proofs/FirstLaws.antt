@@ -2,7 +2,7 @@
 -- the claim holds, exactly.
 -- Assumes nothing.
 use Prim.Native.Nat.{ℕ, _≤_}
-use mathlib.Core.Path.{_≡_, refl, sym, subst}
+use mathlib.Core.Path.{_≡_, refl, sym, ap, subst}
 use mathlib.Core.Bool.{Bool, true, false, cond, _&&_, _||_}
 use mathlib.Core.List.{List, [], _∷_, _++_}
 use native.Mathlib.Omega.{arith}
@@ -80,6 +80,13 @@ earlier n (k ∷ ks) = cond (eqb n k) [] (k ∷ earlier n ks)
 abbrev pub onlyIf : Bool → List (ℕ × Bool) → List (ℕ × Bool)
 onlyIf b [] = []
 onlyIf b (t ∷ ts) = (t .0, b && t .1) ∷ onlyIf b ts
+
+-- the first of them is the first where b holds, and else there is none
+pub only-first : (b : Bool) (ts : List (ℕ × Bool)) → firstHolding (onlyIf b ts) ≡ cond b (firstHolding ts) 0
+only-first true [] = refl
+only-first false [] = refl
+only-first true (t ∷ ts) = ap (cond (t .1) (t .0)) (only-first true ts)
+only-first false (t ∷ ts) = only-first false ts
 
 -- decide what P says and that b holds, which is what Q says of the numbers of their sort
 pub only-if-decides : (b : Bool) (P Q Sort : ℕ → Type 0) → ((n : ℕ) → b ≡ true → P n → Q n) → ((n : ℕ) → Sort n → Q n → (b ≡ true) × P n)

@@ -1,21 +1,22 @@
 -- Reports in the room: what writing them one after the other leaves, and that they can be read back.
-use Prim.Native.Nat.{ℕ, suc, _+_, _*_, _≤_, _<_}
+use Prim.Native.Nat.{ℕ, suc, _+_, _-_, _*_, _/_, _≤_, _<_}
 use mathlib.Core.Bool.{Bool, true, false, cond, _&&_, and-false}
 use mathlib.Core.List.{List, [], _∷_, _++_, map, append-assoc, append-nil}
-use mathlib.Core.Option.{Option, some}
+use mathlib.Core.Option.{Option, none, some}
 use mathlib.Core.Path.{_≡_, refl, sym, ap, ap₂, _∙_}
 use native.Mathlib.Nat.{add-zero}
 use native.Mathlib.Numerals.{add-one}
 use native.Mathlib.Omega.{arith}
 use borrow.Author.Tests.{le-leb, lt-leb}
 use lib.Dec.{leb}
-use lib.ListN.{length, take, drop, getD, set, length-append, length-take}
+use lib.ListN.{length, take, drop, getD, set, length-append, length-take, length-drop}
 use lib.Seq.{sets, length-sets, sets-eq, take-suc, take-at, drop-at, length-take-le}
 use Rattle.packing.specs.declared.report.Report.{Report}
 use Rattle.packing.specs.Codec.{bytesOf, packs, unpackOf}
-use Rattle.packing.specs.Report.{reports, reportSize, codeOf}
-use Rattle.packing.specs.Room.{packedAll, written, isPut, roomAfter, AllPack, readBack}
-use Rattle.packing.proofs.CodecLaws.{length-bytes, pack-packs, pack-unpack}
+use Rattle.packing.specs.declared.report.Unpacked.{Unpacked}
+use Rattle.packing.specs.Report.{reports, reportSize, codeOf, unpacked}
+use Rattle.packing.specs.Room.{packedAll, written, isPut, roomAfter, AllPack, reportAt, readBack}
+use Rattle.packing.proofs.CodecLaws.{length-bytes, pack-packs, pack-unpack, unpack-short}
 use Rattle.packing.proofs.ReportLaws.{lawful}
 
 length-report : (r : Report) → length (bytesOf reports (codeOf r)) ≡ reportSize
@@ -133,3 +134,18 @@ sets-more l start vs i h =
   where
     here : start + i ≡ start + length (take i vs)
     here = omega (arith, length-take i vs)
+
+-- ---- one place of the room ----
+
+-- no report stands where the room has not the bytes for it
+pub no-place : (room : List ℕ) (at : ℕ) → length room / 14 ≤ at → reportAt room at ≡ none
+no-place room at h = unpack-short reports (drop (reportSize * at) room) (rw length-drop (omega arith))
+
+-- the part of the room that is handed to the unpacker
+pub place-part : (room : List ℕ) (at : ℕ) (u : Unpacked)
+    → u ≡ unpacked (unpackOf reports (take (reportSize * at + 14 - reportSize * at) (drop (reportSize * at) room)))
+    → u ≡ unpacked (reportAt room at)
+place-part room at u h = h ∙ ap (λ (n : ℕ). unpacked (unpackOf reports (take n (drop (reportSize * at) room)))) long
+  where
+    long : reportSize * at + 14 - reportSize * at ≡ 14
+    long = omega arith

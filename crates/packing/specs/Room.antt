@@ -41,6 +41,10 @@ abbrev pub AllPack : List Report → Type 0
 AllPack [] = Unit {0}
 AllPack (r ∷ rs) = (packs reports r ≡ true) × AllPack rs
 
+-- what stands at place `at` of the room: a report, or none
+abbrev pub reportAt : List ℕ → ℕ → Option Report
+reportAt room at = unpackOf reports (take reportSize (drop (reportSize * at) room))
+
 -- what n reports in a row unpack to
 abbrev pub readBack : ℕ → List ℕ → List (Option Report)
 readBack zero s = []

@@ -3,9 +3,10 @@ ghost use mathlib.Core.Path.{_≡_};
 ghost use Prim.Native.Nat.{_+_, _*_, _≤_, _<_};
 ghost use lib.ListN.{length};
 ghost use lib.Seq.{sets};
-ghost use Rattle.packing.specs.Report.{reportSize};
-ghost use Rattle.packing.specs.Room.{isPut, roomAfter};
+ghost use Rattle.packing.specs.Report.{reportSize, unpacked};
+ghost use Rattle.packing.specs.Room.{isPut, roomAfter, reportAt};
 use crate::report::Report;
+use crate::report::Unpacked;
 
 // The most reports that one message makes, and the bytes that they take: the room that a caller must lend for it.
 pub const MOST_REPORTS: usize = 2280;
@@ -50,4 +51,16 @@ pub fn put_report(room: &mut [u8], at: usize, report: Report) -> bool
     } else {
         false
     }
+}
+
+// The report that stands at place `at` of a room; nothing, where none does.
+pub fn read_report(room: &[u8], at: usize) -> Unpacked
+    ensures { λ r. ⌜ r ≡ unpacked (reportAt (now (room .entry)) at) ⌝ }
+{
+    if room.len() / crate::report::SIZE <= at {
+        return Unpacked::Nothing;
+    }
+    let from = crate::report::SIZE * at;
+    let to = from + crate::report::SIZE;
+    crate::report::unpack(&room[from..to])
 }

@@ -5,6 +5,7 @@ pub mod RestLaws
 pub mod QuoteLaws
 pub mod ProtectLaws
 pub mod StopLaws
+pub mod TableLaws
 pub mod RestingLaws
 pub mod EaseLaws
 pub mod RequestLaws

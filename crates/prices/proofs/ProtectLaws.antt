@@ -2,7 +2,7 @@
 -- Assumes nothing.
 use Prim.Native.Nat.{ℕ, _+_, _-_, _*_, _≤_, _<_}
 use mathlib.Core.Path.{_≡_, refl}
-use mathlib.Core.Bool.{Bool, true, false, cond, not}
+use mathlib.Core.Bool.{Bool, true, false, cond, not, _&&_}
 use mathlib.Core.List.{List, [], _∷_}
 use native.Mathlib.Omega.{arith}
 use lib.Dec.{eqb, leb, ltb}
@@ -10,7 +10,8 @@ use borrow.Author.Tests.{leb-true, leb-false, ltb-true, eqb-false, le-leb, lt-lt
 use Rattle.lists.proofs.Bools.{and-left, and-right}
 use Rattle.lists.proofs.FirstLaws.{Decides, AllDecide, TellsFirst, tells-first}
 use Rattle.prices.specs.declared.Guard.{Guard}
-use Rattle.prices.specs.Protect.{bars25, bars26, bars24, atLeast, figures24, limited24, protection}
+use Rattle.prices.specs.Test.{holds, answers, compared, atLeast}
+use Rattle.prices.specs.Protect.{test25, test26, test24, figures24, limited24, bars, protection}
 
 -- ---- 25: "call, not exempt, underlying known, bid at or above it" ----
 
@@ -21,23 +22,23 @@ pub record AboveUnderlying (g : Guard) (s : Bool) (bid : ℕ) : Type 0 where
   pub known : 1 ≤ g .underlying
   pub above : g .underlying ≤ bid
 
-pub decides-25 : (g : Guard) (s : Bool) (bid : ℕ) → Decides (bars25 g s bid) (AboveUnderlying g s bid)
+pub decides-25 : (g : Guard) (s : Bool) (bid : ℕ) → Decides (holds s (test25 g s bid)) (AboveUnderlying g s bid)
 decides-25 g s bid = (told, tells)
   where
-    told : bars25 g s bid ≡ true → AboveUnderlying g s bid
+    told : holds s (test25 g s bid) ≡ true → AboveUnderlying g s bid
     told a =
-        let b = and-right (not s) _ a in
+        let p = and-left (test25 g s bid .put) _ a in
+        let b = and-right (not s) _ p in
         let c = and-right (not (g .put)) _ b in
-        let d = and-right (not (g .exempt)) _ c in
         record {
-          buys = not-true s (and-left (not s) _ a);
+          buys = not-true s (and-left (not s) _ p);
           call = not-true (g .put) (and-left (not (g .put)) _ b);
           bound = not-true (g .exempt) (and-left (not (g .exempt)) _ c);
-          known = omega (arith, eqb-false (g .underlying) 0 (not-true (eqb (g .underlying) 0) (and-left (not (eqb (g .underlying) 0)) _ d)));
-          above = leb-true (g .underlying) bid (and-right (not (eqb (g .underlying) 0)) _ d);
+          known = omega (arith, eqb-false (g .underlying) 0 (not-true (eqb (g .underlying) 0) (and-right (not (g .exempt)) _ c)));
+          above = leb-true (g .underlying) bid (and-right (test25 g s bid .put) _ a);
         }
 
-    tells : AboveUnderlying g s bid → bars25 g s bid ≡ true
+    tells : AboveUnderlying g s bid → holds s (test25 g s bid) ≡ true
     tells a =
         rw (a .buys, a .call, a .bound, ne-eqb (g .underlying) 0 (λ z. omega (arith, a .known, z)), le-leb (g .underlying) bid (a .above)) refl
 
@@ -49,18 +50,18 @@ pub record AboveStrike (g : Guard) (s : Bool) (bid : ℕ) : Type 0 where
   pub bound : g .exempt ≡ false
   pub above : g .strike ≤ bid
 
-pub decides-26 : (g : Guard) (s : Bool) (bid : ℕ) → Decides (bars26 g s bid) (AboveStrike g s bid)
+pub decides-26 : (g : Guard) (s : Bool) (bid : ℕ) → Decides (holds s (test26 g s bid)) (AboveStrike g s bid)
 decides-26 g s bid = (told, λ a. rw (a .buys, a .is-put, a .bound, le-leb (g .strike) bid (a .above)) refl)
   where
-    told : bars26 g s bid ≡ true → AboveStrike g s bid
+    told : holds s (test26 g s bid) ≡ true → AboveStrike g s bid
     told a =
-        let b = and-right (not s) _ a in
-        let c = and-right (g .put) _ b in
+        let p = and-left (test26 g s bid .put) _ a in
+        let b = and-right (not s) _ p in
         record {
-          buys = not-true s (and-left (not s) _ a);
+          buys = not-true s (and-left (not s) _ p);
           is-put = and-left (g .put) _ b;
-          bound = not-true (g .exempt) (and-left (not (g .exempt)) _ c);
-          above = leb-true (g .strike) bid (and-right (not (g .exempt)) _ c);
+          bound = not-true (g .exempt) (and-right (g .put) _ b);
+          above = leb-true (g .strike) bid (and-right (test26 g s bid .put) _ a);
         }
 
 -- ---- 24 ----
@@ -81,17 +82,17 @@ abbrev pub TooFar : Bool → ℕ → ℕ → Type 0
 TooFar false nbo bid = FarBid nbo bid
 TooFar true nbb offer = FarOffer nbb offer
 
-pub decides-24 : (s : Bool) (best limit : ℕ) → Decides (bars24 s best limit) (TooFar s best limit)
+pub decides-24 : (s : Bool) (best limit : ℕ) → Decides (holds s (test24 s best limit)) (TooFar s best limit)
 unfolding limited24 figures24
 decides-24 false nbo bid = (told, tells)
   where
-    told : bars24 false nbo bid ≡ true → FarBid nbo bid
+    told : holds false (test24 false nbo bid) ≡ true → FarBid nbo bid
     told a =
         let k : nbo ≡ 0 → ⊥ = eqb-false nbo 0 (not-true (eqb nbo 0) (and-left (not (eqb nbo 0)) _ a)) in
         by (leb nbo 100) refl k (and-right (not (eqb nbo 0)) _ a)
       where
         by : (b : Bool) → leb nbo 100 ≡ b → (nbo ≡ 0 → ⊥)
-            → atLeast (cond b (record { first = bid; second = nbo + 100 }) (record { first = 2 * (bid - nbo); second = nbo })) ≡ true
+            → compared atLeast false (cond b (record { first = bid; second = nbo + 100 }) (record { first = 2 * (bid - nbo); second = nbo })) ≡ true
             → FarBid nbo bid
         by true q k f = record {
           known = omega (arith, k);
@@ -104,11 +105,11 @@ decides-24 false nbo bid = (told, tells)
           high = λ _. omega (arith, leb-true nbo (2 * (bid - nbo)) f);
         }
 
-    tells : FarBid nbo bid → bars24 false nbo bid ≡ true
+    tells : FarBid nbo bid → holds false (test24 false nbo bid) ≡ true
     tells f = rw (ne-eqb nbo 0 (λ z. omega (arith, f .known, z))) (by (leb nbo 100) refl)
       where
         by : (b : Bool) → leb nbo 100 ≡ b
-            → atLeast (cond b (record { first = bid; second = nbo + 100 }) (record { first = 2 * (bid - nbo); second = nbo })) ≡ true
+            → compared atLeast false (cond b (record { first = bid; second = nbo + 100 }) (record { first = 2 * (bid - nbo); second = nbo })) ≡ true
         by true q = le-leb (nbo + 100) bid (f .low (leb-true nbo 100 q))
         by false q = le-leb nbo (2 * (bid - nbo)) (omega (arith, f .high (omega (arith, leb-false nbo 100 q))))
 decides-24 true nbb offer = (
@@ -153,11 +154,8 @@ module _ {g : Guard} {s : Bool} {best limit : ℕ} where
   barred-high (too-far a) = omega arith
 
 -- the tests decide just this
-abbrev pub barTests : Guard → Bool → ℕ → ℕ → List (ℕ × Bool)
-barTests g s best limit = (25, bars25 g s limit) ∷ (26, bars26 g s limit) ∷ (24, bars24 s best limit) ∷ []
-
 module _ (g : Guard) (s : Bool) (best limit : ℕ) where
-  pub bars-decide : AllDecide (Barred g s best limit) (barTests g s best limit)
+  pub bars-decide : AllDecide (Barred g s best limit) (answers s (bars g s best limit))
   bars-decide = (
     (λ h. above-underlying (decides-25 g s limit .0 h), λ a. decides-25 g s limit .1 (is-25 a)),
     (
@@ -170,4 +168,4 @@ module _ (g : Guard) (s : Bool) (best limit : ℕ) where
   pub protection-first : TellsFirst (Barred g s best limit) barOrder (protection g s best limit)
   unfolding protection
   protection-first =
-      tells-first (Barred g s best limit) (barTests g s best limit) bars-decide (omega arith, (omega arith, (omega arith, tt)))
+      tells-first (Barred g s best limit) (answers s (bars g s best limit)) bars-decide (omega arith, (omega arith, (omega arith, tt)))

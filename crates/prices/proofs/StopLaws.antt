@@ -1,19 +1,20 @@
--- WHAT MAY NOT REST, IN PLAIN INEQUALITIES, both ways: a rest is told 20, 21, 23 or 22 exactly when that test holds and none before it does. Whether 21 holds
--- is the book's to say (crate arrival, StopReasons).
+-- WHAT MAY NOT REST, IN PLAIN INEQUALITIES, both ways: a rest is told 20, 21, 23 or 22 exactly when that test holds and none before it does. What 21 says is
+-- the book's to say (crate arrival, StopReasons).
 -- Assumes nothing.
 use Prim.Native.Nat.{ℕ, _+_, _-_, _*_, _≤_, _<_}
 use mathlib.Core.Path.{_≡_, refl}
-use mathlib.Core.Bool.{Bool, true, false, not}
+use mathlib.Core.Bool.{Bool, true, false, not, _&&_}
 use mathlib.Core.List.{List, [], _∷_}
 use native.Mathlib.Omega.{arith}
 use lib.Dec.{eqb, leb}
 use borrow.Author.Tests.{leb-true, leb-false, ltb-true, eqb-false, le-leb, lt-leb, lt-ltb, ne-eqb, not-true}
 use Rattle.lists.proofs.Bools.{clash, and-left, and-right}
 use Rattle.lists.proofs.FirstLaws.{Decides, AllDecide, TellsFirst, tells-first}
-use Rattle.kinds.specs.Kinds.{sliding}
+use Rattle.kinds.specs.Kinds.{sliding, light}
 use Rattle.prices.specs.Side.{reaches}
 use Rattle.prices.specs.Step.{topPrice, lastPrice, apart, allowed}
-use Rattle.prices.specs.Post.{bars20, bars22, bars23, stopped}
+use Rattle.prices.specs.Test.{holds, answers}
+use Rattle.prices.specs.Post.{test20, test21, test22, test23, stops, stopped}
 
 -- ---- p is x or more (sell: x or less), side by side ----
 
@@ -25,6 +26,10 @@ unfolding reaches
 decides-both false p x = (λ h. (λ _. leb-true x p h, λ q. clash q refl), λ f. le-leb x p (f .0 refl))
 decides-both true p x = (λ h. (λ q. clash refl q, λ _. leb-true p x h), λ f. le-leb p x (f .1 refl))
 
+-- there is a price
+some-price : (p : ℕ) → not (eqb p 0) ≡ true → 1 ≤ p
+some-price p h = omega (arith, eqb-false p 0 (not-true (eqb p 0) h))
+
 -- ---- 20: "not MMALO or MMRP and L is A or more"; where there is no A there is no test ----
 
 pub record AtAway (kind : ℕ) (s : Bool) (l a : ℕ) : Type 0 where
@@ -33,22 +38,42 @@ pub record AtAway (kind : ℕ) (s : Bool) (l a : ℕ) : Type 0 where
   pub buy : s ≡ false → a ≤ l
   pub sell : s ≡ true → l ≤ a
 
-pub decides-20 : (kind : ℕ) (s : Bool) (l a : ℕ) → Decides (bars20 kind s l a) (AtAway kind s l a)
+pub decides-20 : (kind : ℕ) (s : Bool) (l a : ℕ) → Decides (holds s (test20 kind l a)) (AtAway kind s l a)
 decides-20 kind s l a = (told, tells)
   where
-    told : bars20 kind s l a ≡ true → AtAway kind s l a
+    told : holds s (test20 kind l a) ≡ true → AtAway kind s l a
     told h =
-        let k = and-right (not (sliding kind)) _ h in
-        let r = decides-both s l a .0 (and-right (not (eqb a 0)) _ k) in
+        let k = and-left (not (sliding kind) && not (eqb a 0)) _ h in
+        let r = decides-both s l a .0 (and-right (not (sliding kind) && not (eqb a 0)) _ h) in
         record {
-          rigid = not-true (sliding kind) (and-left (not (sliding kind)) _ h);
-          known = omega (arith, eqb-false a 0 (not-true (eqb a 0) (and-left (not (eqb a 0)) _ k)));
+          rigid = not-true (sliding kind) (and-left (not (sliding kind)) _ k);
+          known = some-price a (and-right (not (sliding kind)) _ k);
           buy = r .0;
           sell = r .1;
         }
 
-    tells : AtAway kind s l a → bars20 kind s l a ≡ true
+    tells : AtAway kind s l a → holds s (test20 kind l a) ≡ true
     tells f = rw (f .rigid, ne-eqb a 0 (λ z. omega (arith, f .known, z)), decides-both s l a .1 (f .buy, f .sell))
+
+-- ---- 21: "MMLO and an undisplayed sell works at L or less", h being the best price at which one works ----
+
+pub record AtHidden (kind : ℕ) (s : Bool) (l h : ℕ) : Type 0 where
+  pub passes-over : light kind ≡ true
+  pub known : 1 ≤ h
+  pub buy : s ≡ false → h ≤ l
+  pub sell : s ≡ true → l ≤ h
+
+pub decides-hidden : (kind : ℕ) (s : Bool) (l h : ℕ) → Decides (holds s (test21 kind l h)) (AtHidden kind s l h)
+decides-hidden kind s l h = (told, tells)
+  where
+    told : holds s (test21 kind l h) ≡ true → AtHidden kind s l h
+    told g =
+        let k = and-left (light kind && not (eqb h 0)) _ g in
+        let r = decides-both s l h .0 (and-right (light kind && not (eqb h 0)) _ g) in
+        record { passes-over = and-left (light kind) _ k; known = some-price h (and-right (light kind) _ k); buy = r .0; sell = r .1 }
+
+    tells : AtHidden kind s l h → holds s (test21 kind l h) ≡ true
+    tells f = rw (f .passes-over, ne-eqb h 0 (λ z. omega (arith, f .known, z)), decides-both s l h .1 (f .buy, f .sell))
 
 -- ---- 23: "a sliding kind's display would be below M (sell: above 100,000)" ----
 
@@ -57,7 +82,7 @@ pub record PastLast (m kind : ℕ) (s : Bool) (d : ℕ) : Type 0 where
   pub buy : s ≡ false → d < m
   pub sell : s ≡ true → topPrice < d
 
-pub decides-23 : (m kind : ℕ) (s : Bool) (d : ℕ) → Decides (bars23 m kind s d) (PastLast m kind s d)
+pub decides-23 : (m kind : ℕ) (s : Bool) (d : ℕ) → Decides (holds s (test23 m kind s d)) (PastLast m kind s d)
 unfolding reaches lastPrice
 decides-23 m kind false d = (
   λ h. record {
@@ -83,7 +108,7 @@ pub record FarShown (m k kind : ℕ) (s : Bool) (l d : ℕ) : Type 0 where
   pub buy : s ≡ false → k * m + d < l
   pub sell : s ≡ true → k * m + l < d
 
-pub decides-22 : (m k kind : ℕ) (s : Bool) (l d : ℕ) → Decides (bars22 m k kind s l d) (FarShown m k kind s l d)
+pub decides-22 : (m k kind : ℕ) (s : Bool) (l d : ℕ) → Decides (holds s (test22 m k kind s l d)) (FarShown m k kind s l d)
 unfolding apart allowed
 decides-22 m k kind false l d = (
   λ h. record {
@@ -136,11 +161,8 @@ module _ {m k kind : ℕ} {s : Bool} {l a : ℕ} {Says21 : Type 0} {d : ℕ} whe
   stopped-low (far-shown f) = omega arith
 
 -- the tests decide just this
-abbrev pub stopTests : ℕ → ℕ → ℕ → Bool → ℕ → ℕ → Bool → ℕ → List (ℕ × Bool)
-stopTests m k kind s l a b21 d = (20, bars20 kind s l a) ∷ (21, b21) ∷ (23, bars23 m kind s d) ∷ (22, bars22 m k kind s l d) ∷ []
-
-module _ (m k kind : ℕ) (s : Bool) (l a : ℕ) (b21 : Bool) (Says21 : Type 0) (d : ℕ) (decides-21 : Decides b21 Says21) where
-  pub stops-decide : AllDecide (Stopped m k kind s l a Says21 d) (stopTests m k kind s l a b21 d)
+module _ (m k kind : ℕ) (s : Bool) (l a h : ℕ) (Says21 : Type 0) (d : ℕ) (decides-21 : Decides (holds s (test21 kind l h)) Says21) where
+  pub stops-decide : AllDecide (Stopped m k kind s l a Says21 d) (answers s (stops m k kind s l a h d))
   stops-decide = (
     (λ h. at-away (decides-20 kind s l a .0 h), λ f. decides-20 kind s l a .1 (is-20 f)),
     (
@@ -153,8 +175,8 @@ module _ (m k kind : ℕ) (s : Bool) (l a : ℕ) (b21 : Bool) (Says21 : Type 0) 
   )
 
   -- THE REASON TOLD IS THE FIRST THAT HOLDS, and 0 where none does
-  pub stopped-first : TellsFirst (Stopped m k kind s l a Says21 d) stopOrder (stopped m k kind s l a b21 d)
+  pub stopped-first : TellsFirst (Stopped m k kind s l a Says21 d) stopOrder (stopped m k kind s l a h d)
   unfolding stopped
   stopped-first =
-      tells-first (Stopped m k kind s l a Says21 d) (stopTests m k kind s l a b21 d) stops-decide
+      tells-first (Stopped m k kind s l a Says21 d) (answers s (stops m k kind s l a h d)) stops-decide
       (omega arith, (omega arith, (omega arith, (omega arith, tt))))

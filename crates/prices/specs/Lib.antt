@@ -3,6 +3,7 @@ pub mod Step
 pub mod Aims
 pub mod Rest
 pub mod Ease
+pub mod Test
 pub mod Protect
 pub mod Post
 pub mod Request

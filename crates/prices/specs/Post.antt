@@ -1,38 +1,33 @@
--- "What is left posts, unless, first that applies": 20, 21, 23, 22. Each test is named, with the two figures that it compares.
+-- "What is left posts, unless, first that applies": 20, 21, 23, 22, a row of the table for each.
 -- Assumes nothing.
 use Prim.Native.Nat.{ℕ}
-use mathlib.Core.Bool.{Bool, cond, not, _&&_}
-use lib.Dec.{eqb, ltb}
-use Rattle.prices.specs.declared.Figures.{Figures}
-use Rattle.prices.specs.Side.{reaches}
+use mathlib.Core.Bool.{Bool, not, _&&_}
+use mathlib.Core.List.{List, [], _∷_}
+use lib.Dec.{eqb}
 use Rattle.prices.specs.Step.{lastPrice, apart, allowed}
-use Rattle.kinds.specs.Kinds.{sliding}
+use Rattle.prices.specs.Test.{Test, reaching, short, above, reasonOf}
+use Rattle.kinds.specs.Kinds.{sliding, light}
 
--- "20, not MMALO or MMRP and L is A or more"
-abbrev pub figures20 : ℕ → ℕ → Figures
-figures20 l a = record { first = l; second = a }
+-- "20, not MMALO or MMRP and L is A or more"; where there is no A there is no test
+abbrev pub test20 : ℕ → ℕ → ℕ → Test
+test20 kind l a = record { rule = 20; put = not (sliding kind) && not (eqb a 0); figures = record { first = l; second = a }; when = reaching }
 
-abbrev pub bars20 : ℕ → Bool → ℕ → ℕ → Bool
-bars20 kind s l a = not (sliding kind) && (not (eqb a 0) && reaches s (figures20 l a .first) (figures20 l a .second))
+-- "21, MMLO and an undisplayed sell works at L or less": h is the best price at which one works, 0 for none
+abbrev pub test21 : ℕ → ℕ → ℕ → Test
+test21 kind l h = record { rule = 21; put = light kind && not (eqb h 0); figures = record { first = l; second = h }; when = reaching }
 
 -- "23, a sliding kind's display would be below M (sell: above 100,000)"
-abbrev pub figures23 : ℕ → Bool → ℕ → Figures
-figures23 m s d = record { first = d; second = lastPrice m s }
-
-abbrev pub bars23 : ℕ → ℕ → Bool → ℕ → Bool
-bars23 m kind s d = sliding kind && not (reaches s (figures23 m s d .first) (figures23 m s d .second))
+abbrev pub test23 : ℕ → ℕ → Bool → ℕ → Test
+test23 m kind s d = record { rule = 23; put = sliding kind; figures = record { first = d; second = lastPrice m s }; when = short }
 
 -- "22, a sliding kind's L minus display (sell: display minus L) exceeds K times M"
-abbrev pub figures22 : ℕ → ℕ → Bool → ℕ → ℕ → Figures
-figures22 m k s l d = record { first = apart s l d; second = allowed m k }
+abbrev pub test22 : ℕ → ℕ → ℕ → Bool → ℕ → ℕ → Test
+test22 m k kind s l d = record { rule = 22; put = sliding kind; figures = record { first = apart s l d; second = allowed m k }; when = above }
 
-abbrev pub bars22 : ℕ → ℕ → ℕ → Bool → ℕ → ℕ → Bool
-bars22 m k kind s l d = sliding kind && ltb (figures22 m k s l d .second) (figures22 m k s l d .first)
+-- the tests put to what is left of an entry with limit l and away price a, where h is the best undisplayed contra price and d the display it would rest at
+abbrev pub stops : ℕ → ℕ → ℕ → Bool → ℕ → ℕ → ℕ → ℕ → List Test
+stops m k kind s l a h d = test20 kind l a ∷ test21 kind l h ∷ test23 m kind s d ∷ test22 m k kind s l d ∷ []
 
--- the reason, the first that applies in document 01's order; 0 for none
-abbrev pub firstStop : Bool → Bool → Bool → Bool → ℕ
-firstStop b20 b21 b23 b22 = cond b20 20 (cond b21 21 (cond b23 23 (cond b22 22 0)))
-
--- of what is left of an entry with limit l, where d is the display it would rest at; whether 21 applies is the book's to say
-unfoldable pub stopped : ℕ → ℕ → ℕ → Bool → ℕ → ℕ → Bool → ℕ → ℕ
-stopped m k kind s l a b21 d = firstStop (bars20 kind s l a) b21 (bars23 m kind s d) (bars22 m k kind s l d)
+-- why it may not rest; 0 if it may
+unfoldable pub stopped : ℕ → ℕ → ℕ → Bool → ℕ → ℕ → ℕ → ℕ → ℕ
+stopped m k kind s l a h d = reasonOf s (stops m k kind s l a h d)

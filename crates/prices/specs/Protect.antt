@@ -1,34 +1,32 @@
--- Price protection, which "comes first, for quotes only, in the order here". Each test is named, with the two figures that it compares.
+-- Price protection, which "comes first, for quotes only, in the order here": 25, 26, 24, a row of the table for each.
 -- Assumes nothing.
 use Prim.Native.Nat.{ℕ, _+_, _-_, _*_, _≤_}
 use mathlib.Core.Bool.{Bool, true, false, cond, not, _&&_}
+use mathlib.Core.List.{List, [], _∷_}
 use lib.Dec.{eqb, leb, ltb}
 use Rattle.prices.specs.declared.Figures.{Figures}
 use Rattle.prices.specs.declared.Guard.{Guard}
 use Rattle.prices.specs.Step.{topPrice}
+use Rattle.prices.specs.Test.{Test, atLeast, reasonOf}
 
 -- what a caller has seen to: both prices are within the legal range, or none
 pub record Cents (b l : ℕ) : Type 0 where
   pub best : b ≤ topPrice
   pub limit : l ≤ topPrice
 
--- the first figure is at or above the second
-abbrev pub atLeast : Figures → Bool
-atLeast f = leb (f .second) (f .first)
-
 -- "25: call, not exempt, underlying known, bid at or above it."
-abbrev pub figures25 : Guard → ℕ → Figures
-figures25 g bid = record { first = bid; second = g .underlying }
-
-abbrev pub bars25 : Guard → Bool → ℕ → Bool
-bars25 g s bid = not s && (not (g .put) && (not (g .exempt) && (not (eqb (g .underlying) 0) && atLeast (figures25 g bid))))
+abbrev pub test25 : Guard → Bool → ℕ → Test
+test25 g s bid = record {
+  rule = 25;
+  put = not s && (not (g .put) && (not (g .exempt) && not (eqb (g .underlying) 0)));
+  figures = record { first = bid; second = g .underlying };
+  when = atLeast;
+}
 
 -- "26: put, not exempt, bid at or above strike."
-abbrev pub figures26 : Guard → ℕ → Figures
-figures26 g bid = record { first = bid; second = g .strike }
-
-abbrev pub bars26 : Guard → Bool → ℕ → Bool
-bars26 g s bid = not s && (g .put && (not (g .exempt) && atLeast (figures26 g bid)))
+abbrev pub test26 : Guard → Bool → ℕ → Test
+test26 g s bid =
+    record { rule = 26; put = not s && (g .put && not (g .exempt)); figures = record { first = bid; second = g .strike }; when = atLeast }
 
 -- "24: bid, NBO at most 100: bid at least NBO+100. NBO above 100: twice (bid-NBO) at least NBO.
 -- Offer, NBB above 100: twice (NBB-offer) at least NBB; NBB at most 100, no limit. No NBO/NBB, no test."
@@ -41,13 +39,13 @@ unfoldable pub limited24 : Bool → ℕ → Bool
 limited24 false nbo = not (eqb nbo 0)
 limited24 true nbb = ltb 100 nbb
 
-abbrev pub bars24 : Bool → ℕ → ℕ → Bool
-bars24 s best limit = limited24 s best && atLeast (figures24 s best limit)
+abbrev pub test24 : Bool → ℕ → ℕ → Test
+test24 s best limit = record { rule = 24; put = limited24 s best; figures = figures24 s best limit; when = atLeast }
 
--- the reason, the first that applies in this order; 0 for none
-abbrev pub firstBar : Bool → Bool → Bool → ℕ
-firstBar b25 b26 b24 = cond b25 25 (cond b26 26 (cond b24 24 0))
+-- the tests put to a quote on side s with this limit, where `best` is NBO for a bid and NBB for an offer
+abbrev pub bars : Guard → Bool → ℕ → ℕ → List Test
+bars g s best limit = test25 g s limit ∷ test26 g s limit ∷ test24 s best limit ∷ []
 
--- of a quote on side s with this limit, where `best` is NBO for a bid and NBB for an offer
+-- why it is rejected; 0 if none of them applies
 unfoldable pub protection : Guard → Bool → ℕ → ℕ → ℕ
-protection g s best limit = firstBar (bars25 g s limit) (bars26 g s limit) (bars24 s best limit)
+protection g s best limit = reasonOf s (bars g s best limit)

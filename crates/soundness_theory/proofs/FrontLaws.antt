@@ -74,7 +74,7 @@ front-above s n (x ∷ l) h a = more (against s x) refl (front-above s n l h (a 
     more true e k = omega (arith, a .0 e)
     more false e k = k
 
-seen-good : (s : Bool) (p q : ℕ) → AsGood s p q → seen s p ≤ seen s q
+pub seen-good : (s : Bool) (p q : ℕ) → AsGood s p q → seen s p ≤ seen s q
 unfolding seen
 seen-good false p q h = h
 seen-good true p q h = omega arith

@@ -1,3 +1,4 @@
+use Rattle.prices.specs.Protect.{protection}
 use borrow.Author.Tests.{not-true, not-false}
 use mathlib.Core.Path.{refl, sym, _∙_}
 use borrow.Author.Needs.{needs}
@@ -19,6 +20,7 @@ protection-of-requires : tie.Need-protection-of-requires
 protection-of-requires c κs = search needs
 
 returns-2 : tie.Need-returns-2
+unfolding protection
 returns-2 c =
     let at-guard-of : tie.After-guard-of = search in
     let at-if1 : tie.Else1 = search in

@@ -1,3 +1,4 @@
+use Rattle.prices.specs.Post.{stopped}
 use mathlib.Core.Path.{refl, _∙_}
 use Rattle.arrival.specs.Post.{stopFor}
 use Rattle.arrival.proofs.EnterLaws.{prices-known}
@@ -8,8 +9,8 @@ use Rattle.arrival.proofs.post.stop_for.Tie as tie
 prices-of-requires : tie.Need-prices-of-requires
 prices-of-requires c κs = c .pre .bounds
 
-is-barred-21-requires : tie.Need-is-barred-21-requires
-is-barred-21-requires c κs = search needs
+hidden-for-requires : tie.Need-hidden-for-requires
+hidden-for-requires c κs = search needs
 
 market-of-requires : tie.Need-market-of-requires
 market-of-requires c κs = search needs
@@ -24,12 +25,12 @@ stop-of-requires : tie.Need-stop-of-requires
 stop-of-requires c κs = let start : tie.Start = search in (start .pre .bounds .step, start .pre .steps)
 
 returns : tie.Need-returns
-unfolding stopFor
+unfolding stopFor stopped
 returns c =
     let at-kind-of : tie.After-kind-of = search in
     let at-away-of : tie.After-away-of = search in
     let at-market-of : tie.After-market-of = search in
-    let at-is-barred-21 : tie.After-is-barred-21 = search in
+    let at-hidden-for : tie.After-hidden-for = search in
     let at-prices-of : tie.After-prices-of = search in
     let start : tie.Start = search in
     c .stop-of .ensures
@@ -37,7 +38,7 @@ returns c =
       at-kind-of .kind-of .ensures,
       at-away-of .away-of .ensures,
       at-market-of .market-of .ensures,
-      at-is-barred-21 .is-barred-21 .ensures,
+      at-hidden-for .hidden-for .ensures,
       at-prices-of .prices-of .ensures,
       prices-known (start .pre),
     ) refl
@@ -47,7 +48,7 @@ stop-for-spec =
     tie.close
     (tie.spec
     prices-of-requires
-    is-barred-21-requires
+    hidden-for-requires
     market-of-requires
     away-of-requires
     kind-of-requires

@@ -1,7 +1,8 @@
 use mathlib.Core.Path.{sym, ap, _∙_}
 use borrow.Author.Tests.{not-true, not-false}
 use Rattle.prices.specs.declared.Guard.{Guard}
-use Rattle.prices.specs.Protect.{bars25, bars26}
+use Rattle.prices.specs.Test.{holds}
+use Rattle.prices.specs.Protect.{test25, test26}
 use Rattle.handler.proofs.HandleLaws.{never-blocks, blocking-quote}
 use borrow.Author.Needs.{needs}
 use Rattle.handler.proofs.handle.is_blocking.Statement.{statement}
@@ -35,8 +36,8 @@ returns-2 c =
     let a = start .args in
     let g = at-guard-of .guard-of .ensures in
     blocking-quote (a .t) (a .a) _ _ (sym (at-is-quoting .is-quoting .ensures) ∙ not-false _ (at-if1 .if1 .left))
-    (at-is-above-underlying .is-above-underlying .ensures ∙ ap (λ (x : Guard). bars25 x (a .a .sell) (a .a .price)) g)
-    (c .is-above-strike .ensures ∙ ap (λ (x : Guard). bars26 x (a .a .sell) (a .a .price)) g)
+    (at-is-above-underlying .is-above-underlying .ensures ∙ ap (λ (x : Guard). holds (a .a .sell) (test25 x (a .a .sell) (a .a .price))) g)
+    (c .is-above-strike .ensures ∙ ap (λ (x : Guard). holds (a .a .sell) (test26 x (a .a .sell) (a .a .price))) g)
 
 pub is-blocking-spec : {M : Type 1} → statement M
 is-blocking-spec =
