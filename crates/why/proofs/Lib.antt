@@ -1,0 +1,3 @@
+pub mod AcceptLaws
+pub mod ExplainLaws
+pub mod WhyTrue
