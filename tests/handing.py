@@ -7,8 +7,9 @@ import tools
 import struct
 
 from entries import Entry
-from model import Series, message_lines
+from model import Series
 from packed import *
+from printed import message_lines
 from series_vectors import is_sound_series, series, series_picture
 from soundness import unsound
 from soundness_vectors import FIXED, SLIDING as SLIDES, DARK as HIDES, ZERO, book_of, entry, shown

@@ -1,11 +1,12 @@
 #!/usr/bin/env python3
 """A plain model of document 01: one option series on one exchange.
 
-    python3 tests/model.py [--no-checks] [--book] [FILE]
+    python3 tests/model.py [--no-checks] [--book | --why] [FILE]
 
 prints what the session program must print for FILE (standard input without
-FILE); with --book the book after each message (shown_book.py).  The model is written from document 01 alone and is meant to be read
-beside it.  It favours the document's own words over speed.
+FILE); with --book the book after each message (shown_book.py), with --why the
+reason of each report (told_why.py).  The model is written from document 01
+alone and is meant to be read beside it.  It favours the document's own words over speed.
 
 The document words its rules for a buy and calls a sell the mirror image.  Here
 the mirror is the function `seen`: a buy sees prices as they are, a sell sees
@@ -19,8 +20,9 @@ import sys
 
 from entries import Entry, least, less, report, seen
 from packed import *
-from shown_book import book_lines
+from printed import view_lines
 from soundness import promises_kept, unsound
+from told_why import all_tests, posting_tests
 
 
 # ---------------------------------------------------------------- the series
@@ -37,6 +39,7 @@ class Series:
         self.given = 0          # the last entry number given
         self.last_rank = 0
         self.reports = []       # of the message being handled
+        self.tests = []         # of that message: put to the entry that was stopped
         self.steps = {}         # of the message being handled: kind of step -> count
 
     # ---- what the rules ask of the book
@@ -143,7 +146,7 @@ class Series:
         refusal = self.refusal(message)
         if refusal != 0:
             return refusal, []
-        self.reports, self.steps = [], {"easing": 0, "trade": 0, "move": 0}
+        self.reports, self.tests, self.steps = [], [], {"easing": 0, "trade": 0, "move": 0}
         if message.kind in ENTERING:
             self.arrive(message)
         elif message.kind == CANCEL_ENTRY:
@@ -243,6 +246,7 @@ class Series:
         if entry.quantity == 0:
             return
         if reason != 0:
+            self.tests = posting_tests(self, entry)
             self.book.append(entry)
             self.cancel(entry, reason)
             if quote:
@@ -275,6 +279,7 @@ class Series:
         return 24 if 2 * (national - price) >= national else 0
 
     def reject(self, quote, reason):
+        self.tests = all_tests(self, quote)
         self.reports.append(report(REJECTED, reason, quote, 0, quote.limit, 0, quote.quantity))
         if reason in (25, 26):
             self.cancel_quote(quote.party, BUY, OWN_QUOTE_REJECTED)
@@ -352,39 +357,34 @@ def open_series(data):
     return None if setup is None else Series(*setup)
 
 
-def session(data, book=False):
-    """Every line the session program prints for these bytes; or, for each message, the book."""
+def session(data, view="reports"):
+    """Every line the session program prints for these bytes in a view: reports, book or why."""
     series = open_series(data[:4])
     if series is None:
         return ["0 refused 1"]
     lines = []
     for number, message in enumerate(messages_of(data), 1):
-        refusal, reports = series.handle(message)
-        lines += book_lines(number, series.book) if book else message_lines(number, refusal, reports)
+        answer = series.handle(message)
+        lines += view_lines(view, number, answer, series)
     return lines
 
 
 def books(data):
-    return session(data, book=True)
-
-
-def message_lines(number, refusal, reports):
-    if refusal != 0:
-        return ["%d refused %d" % (number, refusal)]
-    return [" ".join(str(field) for field in (number, *fields)) for fields in reports]
+    return session(data, "book")
 
 
 def main(arguments):
     Series.checks = "--no-checks" not in arguments
-    paths = [word for word in arguments if word not in ("--no-checks", "--book")]
+    view = "book" if "--book" in arguments else "why" if "--why" in arguments else "reports"
+    paths = [word for word in arguments if word not in ("--no-checks", "--book", "--why")]
     if len(paths) > 1 or paths and paths[0].startswith("--"):
-        sys.exit("usage: model.py [--no-checks] [--book] [FILE]")
+        sys.exit("usage: model.py [--no-checks] [--book | --why] [FILE]")
     if paths:
         with open(paths[0], "rb") as file:
             data = file.read()
     else:
         data = sys.stdin.buffer.read()
-    for line in books(data) if "--book" in arguments else session(data):
+    for line in session(data, view):
         print(line)
 
 
