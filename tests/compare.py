@@ -2,21 +2,24 @@
 """Runs a program under test beside the model and stops at the first difference.
 
     python3 tests/compare.py [--sessions N] [--messages M] [--seed S] [--seconds T]
-                             [--lessons DIR]... [--keep FILE] [--view reports|book]
+                             [--lessons DIR]... [--keep FILE] [--view reports|book|why]
                              PROGRAM [ARGS..]
 
 PROGRAM reads a session on standard input and prints its lines: in view reports (the
-default) those of its reports, in view book those of the book after each message.  First
-come the lessons: every DIR/NAME.bin must give NAME.out, from the model too; of the book
+default) those of its reports, in view book those of the book after each message, in view
+why the reason of each report.  First come the lessons: every DIR/NAME.bin must give
+NAME.out, in view why NAME.why where there is one, from the model too; of the book
 there is no such file, and the model alone says what must be printed.  Then N
-generated sessions of M messages, in all flavours by turns.  After T seconds no
-new session is begun; a program that takes 30 seconds over one session is stopped
-and counts as differing.
+generated sessions of M messages, in all flavours by turns; in view why every other one is
+of why_sessions.py.  After T seconds no new session is begun; a program that takes 30
+seconds over one session is stopped and counts as differing.
 
 At a difference it shows the session, the message in words and both outputs
 round it, and writes the session's bytes to FILE.  The last line says how many
 sessions and messages agreed.  The exit status is 0 only if every session begun
-agreed, every lesson was run and, if N is not 0, at least one session was.
+agreed, every lesson was run and, if N is not 0, at least one session was; in view why
+the generated sessions, if N is not 0, must also have told all that reasons_met.py wants.
+Some 30 sessions of 200 messages do.
 """
 
 import tools
@@ -26,14 +29,21 @@ import os
 import subprocess
 import sys
 import time
+from collections import Counter
 
 from generate import FLAVOURS, generate
-from model import Series, books, session
+from model import Series, session
+from printed import VIEWS
+from reasons_met import WANTED, never, why_session
 from shown_book import book_words, field_words
+from told_why import why_words
+from why_sessions import why_messages
 from words import message_words, messages_of, report_words, setup_words
 
 
 PATIENCE = 30       # seconds for one session
+WORDS = {"reports": report_words, "book": book_words, "why": why_words}     # what a line says
+RECORDED = {"reports": ".out", "why": ".why"}                               # where a lesson's lines stand
 
 
 class Difference(Exception):
@@ -47,7 +57,7 @@ class TimeUp(Exception):
 class Comparison:
     def __init__(self, command, seconds, keep, view="reports"):
         self.command, self.keep, self.view = command, keep, view
-        self.lines_of = books if view == "book" else session    # what the model says
+        self.met = Counter()        # in view why: what the generated sessions told
         self.deadline = time.monotonic() + seconds
         self.sessions = self.messages = 0
 
@@ -84,22 +94,38 @@ class Comparison:
         self.sessions += 1
         self.messages += len(messages_of(data))
 
+    def recorded(self, path):
+        """The lines that stand beside a lesson, or None."""
+        beside = path[:-len(".bin")] + RECORDED.get(self.view, "")
+        if self.view == "book" or self.view == "why" and not os.path.exists(beside):
+            return None
+        with open(beside) as file:
+            return file.read().split("\n")[:-1]
+
     def lesson(self, path):
         with open(path, "rb") as file:
             data = file.read()
-        expected = self.lines_of(data)
+        expected, recorded = session(data, self.view), self.recorded(path)
         name = "lesson " + os.path.basename(path)[:-len(".bin")]
-        if self.view == "reports":
-            with open(path[:-len(".bin")] + ".out") as file:
-                recorded = file.read().split("\n")[:-1]
+        if recorded is not None:
             self.judge(name, data, recorded, "the model", expected)
         self.judge(name, data, expected)
         self.agreed(data)
 
-    def generated(self, seed, messages, flavour):
-        data = generate(seed, messages, flavour)
-        self.judge("generate.py %s %s %s" % (seed, messages, flavour), data, self.lines_of(data))
+    def generated(self, seed, messages, number):
+        """The session of this number: what makes it, and whether the program agrees."""
+        flavours = list(FLAVOURS)
+        if self.view == "why" and number % 2 == 0:
+            name, data = "why_sessions.py %s %s" % (seed, messages), why_messages(seed, messages)
+        else:
+            flavour = flavours[(number // 2 if self.view == "why" else number) % len(flavours)]
+            name, data = "generate.py %s %s %s" % (seed, messages, flavour), generate(seed, messages, flavour)
+        self.judge(name, data, why_session(data, self.met) if self.view == "why" else session(data, self.view))
         self.agreed(data)
+
+    def untold(self):
+        """In view why: what the generated sessions have not told, and had to."""
+        return never(self.met) if self.view == "why" else []
 
 
 def message_of(line):
@@ -117,9 +143,9 @@ def near(side, place, number, view):
 
 def told(title, side, place, number, view):
     """One output round the first difference, each line with what it says."""
-    words, text = book_words if view == "book" else report_words, [title]
+    text = [title]
     for at in near(side, place, number, view):
-        text.append("  %s %-44s %s" % (">" if at == place else " ", side[at], words(side[at])))
+        text.append("  %s %-44s %s" % (">" if at == place else " ", side[at], WORDS[view](side[at])))
     if place >= len(side):
         text.append("  > (no more lines)")
     return text
@@ -145,7 +171,7 @@ def describe(name, data, expected, lines, program, view="reports"):
     return "\n".join(text)
 
 
-def main():
+def options_given():
     parser = argparse.ArgumentParser(description="Compare a session program with the model.")
     parser.add_argument("--sessions", type=int, default=330)
     parser.add_argument("--messages", type=int, default=200)
@@ -153,36 +179,48 @@ def main():
     parser.add_argument("--seconds", type=float, default=180)
     parser.add_argument("--lessons", action="append", default=[], metavar="DIR")
     parser.add_argument("--keep", default="difference.bin", metavar="FILE")
-    parser.add_argument("--view", choices=("reports", "book"), default="reports")
+    parser.add_argument("--view", choices=VIEWS, default="reports")
     parser.add_argument("--no-checks", action="store_true", help="skip the model's own assertions")
     parser.add_argument("command", nargs=argparse.REMAINDER, metavar="PROGRAM [ARGS..]")
     options = parser.parse_args()
     if not options.command:
         parser.error("no PROGRAM given")
-    Series.checks = not options.no_checks
-    paths = [path for folder in options.lessons
-             for path in sorted(glob.glob(os.path.join(folder, "*.bin")))]
-    if options.lessons and not paths:
+    options.paths = [path for folder in options.lessons
+                     for path in sorted(glob.glob(os.path.join(folder, "*.bin")))]
+    if options.lessons and not options.paths:
         parser.error("no lessons in " + " ".join(options.lessons))
+    return options
 
-    comparison = Comparison(options.command, options.seconds, options.keep, options.view)
-    flavours, note, good = list(FLAVOURS), "", True
+
+def compare(comparison, options):
+    """Whether all is as it should be, and a word on the clock."""
     try:
-        for path in paths:
+        for path in options.paths:
             comparison.lesson(path)
         for number in range(options.sessions):
-            comparison.generated(options.seed + number, options.messages,
-                                 flavours[number % len(flavours)])
+            comparison.generated(options.seed + number, options.messages, number)
     except TimeUp:
-        good = comparison.sessions >= len(paths) + min(options.sessions, 1)
-        note = "; stopped by the clock"
+        return comparison.sessions >= len(options.paths) + min(options.sessions, 1), "; stopped by the clock"
     except Difference as difference:
         print(difference)
+        return False, ""
+    return True, ""
+
+
+def main():
+    options = options_given()
+    Series.checks = not options.no_checks
+    comparison = Comparison(options.command, options.seconds, options.keep, options.view)
+    good, note = compare(comparison, options)
+    if good and options.sessions > 0 and comparison.untold():
+        print("no generated session told this, of %d that must be told: %s"
+              % (len(WANTED), "; ".join(comparison.untold())))
         good = False
-    lessons = min(comparison.sessions, len(paths))
+    lessons = min(comparison.sessions, len(options.paths))
+    where = {"reports": "", "book": " in the book", "why": " in why"}[options.view]
     print("%s: %d lessons and %d generated sessions, %d messages, agree%s%s"
           % ("agreed" if good else "NOT agreed", lessons, comparison.sessions - lessons,
-             comparison.messages, " in the book" if options.view == "book" else "", note))
+             comparison.messages, where, note))
     sys.exit(0 if good else 1)
 
 
