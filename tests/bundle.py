@@ -1,17 +1,17 @@
 #!/usr/bin/env python3
 """Makes the bundle of the crate `test_lessons`: every lesson of tests/lessons and of
-tests/recorded in its reports, then every lesson of tests/lessons in the books it leaves,
-and what must be printed for each.
+tests/recorded in its reports, then every lesson of tests/lessons in the books it leaves, then
+every one in the reasons of its reports, and what must be printed for each.
 
     python3 tests/bundle.py           writes crates/test_lessons/stdin and stdout
     python3 tests/bundle.py --check   only says whether they are up to date
 
 Of each lesson the bundle has the length of its name and the name, one byte for the view
-(0 reports, 1 book), the length of its bytes and the bytes; a length is four bytes, most
+(0 reports, 1 book, 2 why), the length of its bytes and the bytes; a length is four bytes, most
 significant first.  What must be printed is `== ` and the name, and below it in view 0 the
-lesson's .out file, which no program of this project has written (see tests/README.md), and in
-view 1 what the independent model says of the book after each message.  The name of a lesson in
-view 1 ends in `, the book`.
+lesson's .out file and in view 2 its .why file, which no program of this project has written (see
+tests/README.md), and in view 1 what the independent model says of the book after each message.
+The name of a lesson in view 1 ends in `, the book`, in view 2 in `, why`.
 """
 
 import glob
@@ -22,7 +22,7 @@ from model import books
 from tables import keep
 
 HERE = os.path.dirname(os.path.abspath(__file__))
-REPORTS, BOOK = 0, 1
+REPORTS, BOOK, WHY = 0, 1, 2
 MOST = 262_144          # bytes that the program reads
 
 
@@ -36,18 +36,20 @@ def read(path):
 
 
 def lessons_of(folder):
-    """Name and bytes of each lesson, and what it must print in its reports."""
+    """The path without its end, the name and the bytes of each lesson."""
     for path in sorted(glob.glob(os.path.join(HERE, folder, "*.bin"))):
-        yield folder + "/" + os.path.basename(path)[:-4], read(path), read(path[:-4] + ".out")
+        yield path[:-4], folder + "/" + os.path.basename(path)[:-4], read(path)
 
 
 def parts():
     """(name, view, bytes, what must be printed) of each part of the bundle."""
     for folder in ("lessons", "recorded"):
-        for name, data, out in lessons_of(folder):
-            yield name, REPORTS, data, out
-    for name, data, _ in lessons_of("lessons"):
+        for path, name, data in lessons_of(folder):
+            yield name, REPORTS, data, read(path + ".out")
+    for _, name, data in lessons_of("lessons"):
         yield name + ", the book", BOOK, data, "".join(line + "\n" for line in books(data)).encode()
+    for path, name, data in lessons_of("lessons"):
+        yield name + ", why", WHY, data, read(path + ".why")
 
 
 def bundled():

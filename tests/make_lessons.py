@@ -1,5 +1,5 @@
 #!/usr/bin/env python3
-"""Makes tests/lessons/NAME.bin and NAME.out.
+"""Makes tests/lessons/NAME.bin, NAME.out and NAME.why.
 
     python3 tests/make_lessons.py           writes the lessons
     python3 tests/make_lessons.py --check   only says whether they are up to date
@@ -7,7 +7,9 @@
 The short lessons stand in tests/lesson_sources/*.txt, in the form that source.py
 reads.  The indented lines below a message are the reports it must give, worked
 out by hand from document 01; below `setup` stands what a refused setup prints.
-A lesson is written only if the model agrees with every line.
+Below a report of 20 to 26 stand the two figures that the rule compares, worked
+out by hand too, as in `# why: 220 against 219`.  With these the reports say what
+view why prints.  A lesson is written only if the model agrees with every line.
 
 The long lessons stand below, as programs.  Their output is the model's.
 """
@@ -15,6 +17,7 @@ The long lessons stand below, as programs.  Their output is the model's.
 import tools
 import glob
 import os
+import re
 import sys
 from itertools import zip_longest
 
@@ -23,6 +26,7 @@ from source import read_lessons
 from words import Mistake, message_bytes, setup_bytes
 
 HERE = os.path.dirname(os.path.abspath(__file__))
+FIGURES = re.compile(r"\s+# why: (\d+) against (\d+)\s*$")
 
 
 # ---------------------------------------------------------------- the long lessons
@@ -92,33 +96,74 @@ LONG = {"full-book-of-64": full_book, "blocked-maker-in-a-full-book": blocked_in
         "away-prices-walk-with-m-10": both_sides_climb}
 
 
+# ---------------------------------------------------------------- the short lessons
+
+def figures_of(path):
+    """{lesson: {report: its figures}}: what stands below reports, which are counted through the lesson."""
+    figures, name, reports = {}, None, 0
+    with open(path) as file:
+        for line in file:
+            if line.startswith("lesson "):
+                name, reports = line.split()[1], 0
+                figures[name] = {}
+            elif FIGURES.match(line):
+                figures[name][reports - 1] = tuple(map(int, FIGURES.match(line).groups()))
+            elif line[0].isspace() and line.strip() and not line.lstrip().startswith("#"):
+                reports += 1
+    return figures
+
+
+def why_by_hand(name, expected, figures):
+    """The lines of view why that a source says by its reports and the figures below them."""
+    lines, last, place = [], None, 0
+    for report, line in enumerate(expected):
+        number, kind, reason = line.split()[:3]
+        last, place = number, place + 1 if number == last else 0
+        stopped = kind in ("2", "6") and int(reason) < 27
+        if stopped != (report in figures):
+            sys.exit("%s: %r has %s" % (name, line, "no figures" if stopped else "figures, and compares nothing"))
+        told = "%s %d %d" % (reason, *figures.get(report, (0, 0))) if kind in ("2", "6") else "none"
+        lines.append(line if kind == "refused" else "%s %d %s" % (number, place, told))
+    return lines
+
+
+def agree(name, by_hand, lines):
+    if lines != by_hand:
+        pairs = zip_longest(by_hand, lines, fillvalue="(nothing)")
+        wrong = next(pair for pair in pairs if pair[0] != pair[1])
+        sys.exit("%s: the source says %r, the model says %r" % (name, *wrong))
+
+
 def all_lessons():
+    """{name: bytes}, of the short lessons those that the model agrees with."""
     lessons = {}
     for path in sorted(glob.glob(os.path.join(HERE, "lesson_sources", "*.txt"))):
+        figures = figures_of(path)
         for lesson in read_lessons(path):
             assert lesson.name, "a lesson of %s has no name" % path
             assert lesson.name not in lessons, "two lessons are named " + lesson.name
-            data = bytes(lesson.data)
-            lines = session(data)
-            if lines != lesson.expected:
-                pairs = zip_longest(lesson.expected, lines, fillvalue="(nothing)")
-                wrong = next(pair for pair in pairs if pair[0] != pair[1])
-                sys.exit("%s: the source says %r, the model says %r" % (lesson.name, *wrong))
-            lessons[lesson.name] = (data, lines)
+            data = lessons[lesson.name] = bytes(lesson.data)
+            agree(lesson.name, lesson.expected, session(data))
+            agree(lesson.name, why_by_hand(lesson.name, lesson.expected, figures[lesson.name]), session(data, "why"))
     for name, program in LONG.items():
         setup, messages = program()
-        data = setup_bytes(setup) + b"".join(message_bytes(line) for line in messages)
-        lessons[name] = (data, session(data))
+        lessons[name] = setup_bytes(setup) + b"".join(message_bytes(line) for line in messages)
     return lessons
+
+
+def files_of(data):
+    """What is written of a lesson: its bytes, and what must be printed in view reports and in view why."""
+    texts = {suffix: "".join(line + "\n" for line in session(data, view)).encode()
+             for suffix, view in ((".out", "reports"), (".why", "why"))}
+    return {".bin": data, **texts}
 
 
 def main(arguments):
     folder, stale = os.path.join(HERE, "lessons"), []
     os.makedirs(folder, exist_ok=True)
     lessons = all_lessons()
-    for name, (data, lines) in lessons.items():
-        text = "".join(line + "\n" for line in lines).encode()
-        for suffix, content in ((".bin", data), (".out", text)):
+    for name, data in lessons.items():
+        for suffix, content in files_of(data).items():
             path = os.path.join(folder, name + suffix)
             if arguments == ["--check"]:
                 if not os.path.exists(path) or open(path, "rb").read() != content:
