@@ -10,7 +10,7 @@ default) those of its reports, in view book those of the book after each message
 why the reason of each report.  First come the lessons: every DIR/NAME.bin must give
 NAME.out, in view why NAME.why where there is one, from the model too; of the book
 there is no such file, and the model alone says what must be printed.  Then N
-generated sessions of M messages, in all flavours by turns; in view why every other one is
+generated sessions of M messages, in all flavours by turns; in view why two of three are
 of why_sessions.py.  After T seconds no new session is begun; a program that takes 30
 seconds over one session is stopped and counts as differing.
 
@@ -19,7 +19,7 @@ round it, and writes the session's bytes to FILE.  The last line says how many
 sessions and messages agreed.  The exit status is 0 only if every session begun
 agreed, every lesson was run and, if N is not 0, at least one session was; in view why
 the generated sessions, if N is not 0, must also have told all that reasons_met.py wants.
-Some 30 sessions of 200 messages do.
+Some 40 sessions of 200 messages do.
 """
 
 import tools
@@ -115,10 +115,10 @@ class Comparison:
     def generated(self, seed, messages, number):
         """The session of this number: what makes it, and whether the program agrees."""
         flavours = list(FLAVOURS)
-        if self.view == "why" and number % 2 == 0:
+        if self.view == "why" and number % 3 != 0:
             name, data = "why_sessions.py %s %s" % (seed, messages), why_messages(seed, messages)
         else:
-            flavour = flavours[(number // 2 if self.view == "why" else number) % len(flavours)]
+            flavour = flavours[(number // 3 if self.view == "why" else number) % len(flavours)]
             name, data = "generate.py %s %s %s" % (seed, messages, flavour), generate(seed, messages, flavour)
         self.judge(name, data, why_session(data, self.met) if self.view == "why" else session(data, self.view))
         self.agreed(data)

@@ -90,10 +90,20 @@ def both_sides_climb():
     return SETUP.replace("M 1", "M 10"), lines + ["away none none", "close"]
 
 
+def reason_behind_many_trades():
+    """A quote that takes twelve orders: the reason for its rest stands at place 12, and 29 behind it."""
+    lines = ["open"] + ["order sell 50 %d x 1" % (100 + i) for i in range(12)]
+    lines += ["plain sell 3 200 x 1", "away none 111", "plain buy 3 112 x 20", "away none none"]
+    lines += ["order buy 50 %d x 1" % (111 - i) for i in range(12)]
+    lines += ["plain buy 3 50 x 1", "away 100 none", "mmrp sell 3 90 x 20", "close"]
+    return SETUP.replace("K 100", "K 10"), lines
+
+
 LONG = {"full-book-of-64": full_book, "blocked-maker-in-a-full-book": blocked_in_a_full_book,
         "long-settling-of-sells-in-a-full-book": long_settling_of_sells,
         "one-order-against-64-entries": one_order_takes_64,
-        "away-prices-walk-with-m-10": both_sides_climb}
+        "away-prices-walk-with-m-10": both_sides_climb,
+        "why-a-reason-behind-many-trades": reason_behind_many_trades}
 
 
 # ---------------------------------------------------------------- the short lessons

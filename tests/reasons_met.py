@@ -25,6 +25,7 @@ PAIRS = {BUY: ((25, 24), (25, 20), (25, 21), (25, 23), (25, 22), (26, 24), (26, 
          SELL: ((24, 20), (24, 21), (24, 23), (24, 22), (20, 21), (23, 22))}
 PAIRS_AFTER_TRADES = ((20, 21), (23, 22))
 HALVES = ("24 buy, NBO at most 100", "24 buy, NBO above 100", "24 sell, NBB above 100")
+AT_100 = ("24 buy, NBO just 100", "24 buy, NBO a step above 100", "24 sell, NBB a step above 100")
 
 # One entry that was stopped: its message, the tests put to it and the one that stopped it, the
 # book that it found, the series that was left, and whether it had traded.
@@ -41,7 +42,7 @@ def wanted():
                         for kind in AFTER_TRADES.get(rule, ()))
             if rule not in (23, 24):
                 yield "%d %s, at its edge" % (rule, SIDE_WORDS[side])
-    yield from HALVES
+    yield from HALVES + AT_100
     yield from (half + ", at its edge" for half in HALVES)
     for side, word in enumerate(SIDE_WORDS):
         yield from ("%d %s before %d" % (first, word, later) for first, later in PAIRS[side])
@@ -53,9 +54,10 @@ def wanted():
         yield from ("22 %s, %s" % (word, what) for what in BOUND)
         yield from ("%d %s" % (reason, word) for reason in range(REPLACED, PHASE_ENDED + 1))
     yield "a buy's rest, 24 holds only after its trades"
-    yield "a reason at place 10 or behind"
+    yield "a rule's reason at place 10 or behind"
     yield from ("none: report %d" % kind for kind in (NOTED, TRADED, RESTED, REPRICED))
     yield from ("no test 24: %s" % what for what in NO_TEST)
+    yield from NOT_PUT
     yield "refused"
 
 
@@ -63,8 +65,13 @@ BESTS = ("by the away price", "by a display", "by a display apart from its worki
 IN_WAY = ("the best is dark", "the best is half displayed", "several prices in the way", "one beyond the limit too",
           "the best is neither first by number nor by rank", "the best is the maker's own")
 AWAY_THERE = ("away price there", "no away price")
-BOUND = ("bound by the contra price before the away price", "bound by the away price before the contra price")
-NO_TEST = ("an offer far below an NBB of at most 100", "a bid with no NBO", "an offer with no NBB")
+BOUND = ("bound by the contra price before the away price", "bound by the away price before the contra price",
+         "the contra price is a half displayed one's")
+NO_TEST = ("an offer far below an NBB under 100", "an offer far below an NBB of just 100", "a bid with no NBO",
+           "an offer with no NBB")
+# Figures that would hold for another entry, setup or series: a rule that is not put is not told.
+NOT_PUT = ("not 25: exempt", "not 25: a put", "not 25: an offer", "not 25: an order", "not 26: exempt", "not 26: a call",
+           "not 24: an order", "not 21: no MMLO")
 
 
 # ---- what is so of one stop, as the entry sees prices: a higher one is keener for both sides
@@ -100,6 +107,8 @@ def names_of_24(stop):
     national = sees(best) if lit else away(stop)
     half = HALVES[2] if side == SELL else HALVES[national > 100]
     yield half
+    if national in (100, 100 + stop.series.m):
+        yield AT_100[HALVES.index(half)]
     if stop.test.first - stop.test.second < (stop.series.m if half == HALVES[0] else 2 * stop.series.m):
         yield half + ", at its edge"
     yield "24 %s, %s" % (SIDE_WORDS[side], BESTS[lit])
@@ -123,11 +132,16 @@ def names_of_21(stop):
 
 
 def names_of_22(stop):
-    side, prices = stop.entry.side, [entry.working for entry in contra(stop)]
-    if stop.entry.kind == MMALO and prices and away(stop) != 0:
-        c, a = min(seen(side, price) for price in prices), seen(side, away(stop))
-        if c != a:
-            yield "22 %s, %s" % (SIDE_WORDS[side], BOUND[a < c])
+    side, entries = stop.entry.side, contra(stop)
+    if stop.entry.kind != MMALO or not entries:
+        return
+    c = min(seen(side, entry.working) for entry in entries)
+    a = seen(side, away(stop)) if away(stop) != 0 else None
+    if a is not None and a != c:
+        yield "22 %s, %s" % (SIDE_WORDS[side], BOUND[a < c])
+    best = [entry for entry in entries if seen(side, entry.working) == c]
+    if (a is None or c < a) and all(entry.kind != DARK and entry.display != entry.working for entry in best):
+        yield "22 %s, %s" % (SIDE_WORDS[side], BOUND[2])
 
 
 def names_of_book_left(stop):
@@ -139,8 +153,26 @@ def names_of_book_left(stop):
         yield "a buy's rest, 24 holds only after its trades"
 
 
+def names_of_not_put(stop):
+    """Which rules were not put to the entry, though their figures hold."""
+    entry, series = stop.entry, stop.series
+    quote = Entry(entry.number, MMLO, entry.party, entry.side, entry.limit, entry.quantity)
+    above = series.underlying != 0 and entry.limit >= series.underlying
+    tested_call = not series.exempt and not series.put
+    bid = entry.side == BUY and entry.kind in QUOTES
+    so = (bid and above and series.exempt and not series.put, bid and above and series.put and not series.exempt,
+          entry.side == SELL and entry.kind in QUOTES and above and tested_call,
+          entry.side == BUY and entry.kind in ORDERS and above and tested_call,
+          bid and series.put and series.exempt and entry.limit >= series.strike,
+          bid and not series.put and not series.exempt and entry.limit >= series.strike and stop.test.rule != 25,
+          entry.kind in ORDERS and any(test.rule == 24 and test.holds() for test in protection_tests(series, quote)),
+          entry.kind == PLAIN and any(test.rule == 21 and test.holds() for test in posting_tests(series, quote)))
+    yield from (name for name, is_so in zip(NOT_PUT, so) if is_so)
+
+
 def stop_names(stop):
     yield from rule_names(stop)
+    yield from names_of_not_put(stop)
     yield from {21: names_of_21, 22: names_of_22, 24: names_of_24}.get(stop.test.rule, lambda stop: ())(stop)
     yield from names_of_book_left(stop)
 
@@ -159,11 +191,11 @@ def untested(series, found, message):
     bids = [entry.display for entry in found.book if entry.side == BUY and entry.kind != DARK]
     nbb = max(bids + [series.away_bid])
     if message.side == BUY:
-        yield "no test 24: " + NO_TEST[1]
-    elif nbb == 0:
         yield "no test 24: " + NO_TEST[2]
+    elif nbb == 0:
+        yield "no test 24: " + NO_TEST[3]
     elif 2 * (nbb - message.price) >= nbb:
-        yield "no test 24: " + NO_TEST[0]
+        yield "no test 24: " + NO_TEST[nbb == 100]
 
 
 def names(series, found, message, reports):
@@ -174,8 +206,8 @@ def names(series, found, message, reports):
         if kind not in (REJECTED, CANCELLED):
             yield "none: report %d" % kind
             continue
-        if place >= 10:
-            yield "a reason at place 10 or behind"
+        if place >= 10 and reason < REPLACED:
+            yield "a rule's reason at place 10 or behind"
         if reason >= REPLACED:
             yield "%d %s" % (reason, SIDE_WORDS[side])
         else:

@@ -35,7 +35,7 @@ class WhySession(Generator):
         """A setup, and where the scenes play: about 100, where 24 changes, at the ends or anywhere."""
         rng = self.rng
         m, k = rng.choice((1, 1, 5, 10)), rng.choice((0, 1, 2, 3, 3, 5, 5, 10, 20))
-        self.places = [m * max(1, place // m) for place in (m, 50, 95, 100, 104, 150, 200, 400, TOP_PRICE - m)]
+        self.places = [m * max(1, place // m) for place in (m, 50, 95, 100, 100 + m, 150, 200, 400, TOP_PRICE - m)]
         self.anchor, self.band = 100, rng.choice((2, 4, 8))
         strike = rng.choice((3, 120, 160, 205, 300, 1_000))
         return pack_setup(rng.randrange(2), int(rng.random() < 0.2), m, k, strike)
@@ -43,20 +43,20 @@ class WhySession(Generator):
     def play(self):
         self.send(Message(PHASE, quantity=OPEN).pack())
         scenes = [self.anywhere, self.anywhere, self.at_an_end, self.priced_off, self.about_100, self.hidden,
-                  self.own_hidden, self.through]
+                  self.own_hidden, self.protected, self.half_displayed, self.through, self.behind_many_trades]
         while True:
             for scene in self.rng.sample(scenes, len(scenes)):
                 self.cleared()
                 scene(self.rng.randrange(2))
 
     def cleared(self):
-        """A new book, mostly, at another place; another underlying where it is asked for."""
+        """A new book, mostly, at another place; another underlying, also where nobody asks for it."""
         rng = self.rng
         self.anchor = self.legal(rng.choice(self.places))
         if rng.random() < 0.8:
             self.send(Message(PHASE, quantity=rng.choice((CLOSED, CLOSED, HALTED))).pack())
         self.send(Message(PHASE, quantity=OPEN).pack())
-        if not self.series.put and not self.series.exempt:
+        if not self.series.put and not self.series.exempt or rng.random() < 0.3:
             price = rng.choice((0, TOP_PRICE, TOP_PRICE, self.anchor, self.anchor * 3 // 2, self.anchor + 100))
             self.send(Message(UNDERLYING, price=min(price, TOP_PRICE)).pack())
 
@@ -76,9 +76,10 @@ class WhySession(Generator):
             bid, offer = offer, bid
         self.send(Message(AWAY, price=rng.choice((0, bid, bid)), second=rng.choice((0, offer, offer))).pack())
 
-    def away_for(self, side, price):
-        """The away price that binds a side, and none for the other."""
-        self.send(Message(AWAY, price=price if side == SELL else 0, second=price if side == BUY else 0).pack())
+    def away_for(self, side, price, other=0):
+        """The away price that binds a side, and the other's, which is none if it is not named."""
+        bid, offer = (other, price) if side == BUY else (price, other)
+        self.send(Message(AWAY, price=bid, second=offer).pack())
 
     def enter_at(self, kind, side, price, quantity=2, party=None):
         """An entry; a maker that is blocked is mostly enabled first."""
@@ -116,7 +117,11 @@ class WhySession(Generator):
             self.enter_at(kind, 1 - side, end)
         self.stopped(side)
         self.away_for(side, end)
-        self.enter_at(MMRP, side, self.keener(side, end, rng.choice((0, self.series.k, self.series.k, 30))), 500)
+        limits = [self.keener(side, end, steps) for steps in (0, self.series.k, self.series.k, 30)]
+        self.enter_at(MMRP, side, rng.choice(limits), 500)
+        asked = self.series.strike if self.series.put else self.series.underlying
+        if side == BUY and asked:
+            self.enter_at(rng.choice(SLIDING), BUY, self.legal(asked + self.series.m), 500)
         self.stopped(side)
 
     def priced_off(self, side):
@@ -128,8 +133,11 @@ class WhySession(Generator):
         self.away_for(1 - side, rng.choice((0, self.keener(side, best, -rng.randint(0, 3)))))
         self.enter_at(PLAIN, side, best, 5, maker)
         self.enter_at(MMALO, 1 - side, self.keener(side, best, -rng.randint(0, max(0, k - 1))), 5, other)
-        if rng.random() < 0.5:
+        draw, national = rng.random(), self.series.nbo(side)
+        if draw < 0.4:
             self.enter_at(MMALO, side, self.keener(side, best, k + 1), 5, maker)
+        elif draw < 0.8 and national is not None:
+            self.enter_at(rng.choice(QUOTES), side, self.where_24_begins(side, national), 5, maker)
         else:
             self.stopped(side, maker)
         self.stopped(side)
@@ -138,24 +146,40 @@ class WhySession(Generator):
         """A sell up to 100, the others above: a bid that is tested by the one meets 24's other half behind it."""
         rng = self.rng
         self.away_for(BUY, 0)
-        self.enter_at(rng.choice((ORDER, PLAIN, MMLO)), SELL, self.legal(rng.randint(60, 100)))
-        self.away_for(BUY, rng.choice((1, 1, 0)) * self.legal(rng.randint(110, 120)))
+        self.enter_at(rng.choice((ORDER, PLAIN, MMLO)), SELL, self.legal(rng.choice((100, rng.randint(60, 100)))))
+        self.away_for(BUY, rng.choice((100 + self.series.m, self.legal(rng.randint(110, 120)), 0)))
         for _ in range(rng.randint(0, 2)):
             self.enter_at(rng.choice((ORDER, DARK)), SELL, self.legal(rng.randint(101, 140)))
         self.enter_at(rng.choice(QUOTES), BUY, self.legal(rng.randint(155, 205)), 500)
         self.stopped(BUY)
 
-    def hidden(self, side):
-        """Dark and half displayed sells at different prices, displayed ones between: MMLO bids pass over the first."""
+    def hide(self, side):
+        """Dark and half displayed sells at different prices, displayed ones between."""
         rng, best = self.rng, self.anchor
         self.away_for(1 - side, best)
         for kind in rng.sample((DARK, DARK, DARK, MMRP, MMRP, MMALO, ORDER, PLAIN), rng.randint(3, 8)):
             price = self.to_rest(kind, 1 - side) if kind in SLIDING else self.keener(side, best, rng.randint(0, 5))
             self.enter_at(kind, 1 - side, price)
+
+    def hidden(self, side):
+        """MMLO bids pass over what is not displayed; half the time below an away offer, or at it."""
+        rng, best = self.rng, self.anchor
+        self.hide(side)
         if rng.random() < 0.5:
-            self.away_for(side, self.keener(side, best, rng.randint(2, 6)))
+            self.away_for(side, self.keener(side, best, rng.randint(2, 7)), best)
         for _ in range(rng.randint(1, 3)):
             self.enter_at(MMLO, side, self.keener(side, best, rng.randint(0, 5)), rng.choice((1, 9, 50)))
+
+    def protected(self, side):
+        """Bids at the edge of 24 by what is shown, where others are dark or work before their display."""
+        rng = self.rng
+        if side == SELL:
+            self.anchor = self.legal(rng.choice((100 + self.series.m, 120, 200, 400)))
+        self.hide(side)
+        for _ in range(2):
+            national = self.series.nbo(side)
+            if national is not None:
+                self.enter_at(rng.choice(QUOTES), side, self.where_24_begins(side, national), 3)
 
     def own_hidden(self, side):
         """The same for a maker whose own half displayed sell is in the way: it goes with the rest of the bid."""
@@ -166,6 +190,23 @@ class WhySession(Generator):
         if rng.random() < 0.5:
             self.enter_at(DARK, 1 - side, self.keener(side, best, rng.randint(2, 4)))
         self.enter_at(MMLO, side, self.keener(side, best, rng.randint(2, 3)), 50, maker)
+
+    def half_displayed(self, side):
+        """A sell that works before its display, and MMALO bids that are priced off it or off an away offer before it."""
+        rng, k, best = self.rng, self.series.k, self.anchor
+        self.away_for(1 - side, best)
+        self.enter_at(rng.choice(SLIDING), 1 - side, self.keener(side, best, -rng.randint(0, max(0, k - 1))), 5)
+        self.enter_at(MMALO, side, self.keener(side, best, rng.choice((k - 1, k, k + 1))), 5)
+        before = self.keener(side, best, -rng.randint(0, 2))
+        self.away_for(side, before, best)
+        self.enter_at(MMALO, side, self.keener(side, before, rng.choice((k - 1, k, k + 1))), 5)
+
+    def behind_many_trades(self, side):
+        """The same as the next, with so many sells that the reason stands far behind."""
+        for _ in range(self.rng.randint(10, 14)):
+            self.enter_at(ORDER, 1 - side, self.keener(side, self.anchor, -self.rng.randint(0, 2)), 1, 50)
+        self.away_for(side, self.anchor)
+        self.enter_at(self.rng.choice((PLAIN, ORDER, MMLO)), side, self.keener(side, self.anchor, 1), 500)
 
     def through(self, side):
         """Sells rest at the away offer and before it, and bids through it take them: what is left may not post."""
@@ -205,13 +246,16 @@ class WhySession(Generator):
         prices = [entry.working for entry in contra] + [entry.display for entry in contra if entry.display]
         away = series.away_offer if side == BUY else series.away_bid
         nationals = [price for price in (away, *prices) if price]
-        if side == BUY:
-            protected = [price + 100 if price <= 100 else price + price // 2 for price in nationals]
-            protected += [series.strike if series.put else series.underlying]
-        else:
-            protected = [price // 2 for price in nationals]
+        protected = [self.where_24_begins(side, price) for price in nationals]
+        asked = [series.strike if series.put else series.underlying] if side == BUY else []
         slid = [self.edge_of_k(kind, side)] * 3 if kind in SLIDING else []
-        return nationals + protected + slid + [self.near(), series.m, TOP_PRICE]
+        return nationals + protected + asked + slid + [self.near(), series.m, TOP_PRICE]
+
+    def where_24_begins(self, side, national):
+        if side == SELL:
+            return self.legal(national // 2)
+        edge = national + 100 if national <= 100 else national + (national + 1) // 2
+        return self.legal(edge + self.series.m - 1)
 
 
 def why_messages(seed, count):
