@@ -34,7 +34,7 @@ from collections import Counter
 from generate import FLAVOURS, generate
 from model import Series, session
 from printed import VIEWS
-from reasons_met import WANTED, never, why_session
+from reasons_met import WANTED, amiss, why_session
 from shown_book import book_words, field_words
 from told_why import why_words
 from why_sessions import why_messages
@@ -123,9 +123,9 @@ class Comparison:
         self.judge(name, data, why_session(data, self.met) if self.view == "why" else session(data, self.view))
         self.agreed(data)
 
-    def untold(self):
-        """In view why: what the generated sessions have not told, and had to."""
-        return never(self.met) if self.view == "why" else []
+    def amiss(self):
+        """In view why: what the generated sessions have not told and had to, or have told and could not."""
+        return amiss(self.met) if self.view == "why" else []
 
 
 def message_of(line):
@@ -212,9 +212,8 @@ def main():
     Series.checks = not options.no_checks
     comparison = Comparison(options.command, options.seconds, options.keep, options.view)
     good, note = compare(comparison, options)
-    if good and options.sessions > 0 and comparison.untold():
-        print("no generated session told this, of %d that must be told: %s"
-              % (len(WANTED), "; ".join(comparison.untold())))
+    if good and options.sessions > 0 and comparison.amiss():
+        print("of %d things that generated sessions must tell:\n%s" % (len(WANTED), "\n".join(comparison.amiss())))
         good = False
     lessons = min(comparison.sessions, len(options.paths))
     where = {"reports": "", "book": " in the book", "why": " in why"}[options.view]

@@ -26,9 +26,20 @@ PAIRS = {BUY: ((25, 24), (25, 20), (25, 21), (25, 23), (25, 22), (26, 24), (26, 
 PAIRS_AFTER_TRADES = ((20, 21), (23, 22))
 HALVES = ("24 buy, NBO at most 100", "24 buy, NBO above 100", "24 sell, NBB above 100")
 AT_100 = ("24 buy, NBO just 100", "24 buy, NBO a step above 100", "24 sell, NBB a step above 100")
+BESTS = ("by the away price", "by a display", "by a display apart from its working price", "a dark entry before it")
+IN_WAY = ("the best is dark", "the best is half displayed", "several prices in the way", "one beyond the limit too",
+          "the best is neither first by number nor by rank", "the best is the maker's own")
+AWAY_THERE = ("away price there", "no away price")
+BOUND = ("bound by the contra price before the away price", "bound by the away price before the contra price",
+         "the contra price is a half displayed one's")
+NO_TEST = ("an offer far below an NBB under 100", "an offer far below an NBB of just 100", "a bid with no NBO",
+           "an offer with no NBB")
+# Figures that would hold for another entry, setup or series: a rule that is not put is not told.
+NOT_PUT = ("not 25: exempt", "not 25: a put", "not 25: an offer", "not 25: an order", "not 26: exempt", "not 26: a call",
+           "not 24: an order", "not 21: no MMLO")
 
-# One entry that was stopped: its message, the tests put to it and the one that stopped it, the
-# book that it found, the series that was left, and whether it had traded.
+# One entry that was stopped: the test that stopped it and all that were put to it, the book that it
+# found, the series that was left, and whether it had traded.
 Stop = namedtuple("Stop", "entry test tests found series traded")
 
 
@@ -59,19 +70,6 @@ def wanted():
     yield from ("no test 24: %s" % what for what in NO_TEST)
     yield from NOT_PUT
     yield "refused"
-
-
-BESTS = ("by the away price", "by a display", "by a display apart from its working price", "a dark entry before it")
-IN_WAY = ("the best is dark", "the best is half displayed", "several prices in the way", "one beyond the limit too",
-          "the best is neither first by number nor by rank", "the best is the maker's own")
-AWAY_THERE = ("away price there", "no away price")
-BOUND = ("bound by the contra price before the away price", "bound by the away price before the contra price",
-         "the contra price is a half displayed one's")
-NO_TEST = ("an offer far below an NBB under 100", "an offer far below an NBB of just 100", "a bid with no NBO",
-           "an offer with no NBB")
-# Figures that would hold for another entry, setup or series: a rule that is not put is not told.
-NOT_PUT = ("not 25: exempt", "not 25: a put", "not 25: an offer", "not 25: an order", "not 26: exempt", "not 26: a call",
-           "not 24: an order", "not 21: no MMLO")
 
 
 # ---- what is so of one stop, as the entry sees prices: a higher one is keener for both sides
@@ -233,5 +231,7 @@ def why_session(data, met):
 WANTED = tuple(wanted())
 
 
-def never(met):
-    return [name for name in WANTED if met[name] == 0]
+def amiss(met):
+    """What was never told and had to be, and what was told that cannot be, such as a pair that cannot hold at once."""
+    return ["never told: " + name for name in WANTED if met[name] == 0] \
+        + ["told, though it cannot be: " + name for name in met if name not in WANTED]

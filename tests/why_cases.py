@@ -20,7 +20,7 @@ from cases import every_lesson, read
 from generate import FLAVOURS, generate
 from model import Series, open_series, session
 from packed import *
-from reasons_met import never, why_session
+from reasons_met import amiss, why_session
 from told_why import first_that_holds, posting_tests, protection_tests, why
 from why_sessions import why_messages
 from words import message_bytes, setup_bytes
@@ -311,19 +311,19 @@ def asked_beside():
 
 
 def lessons_tell():
-    """What must be told and is in no lesson."""
+    """What must be told and is in no lesson, or is told and cannot be."""
     met = Counter()
     for path in every_lesson("lessons"):
         why_session(read(path, "rb"), met)
-    return ["no lesson tells this: " + name for name in never(met)]
+    return ["the lessons: " + what for what in amiss(met)]
 
 
 def main():
     Series.checks = False
     faults = [*by_hand(), *one_report(), *asked_beside(), *lessons_tell()]
     print("\n".join(faults[:40]) if faults else
-          "why_cases: %d sessions and %d reports by hand, %d tests of generated sessions and the lessons are as they should be"
-          % (len(CASES), len(ONE_REPORT) + 1, sum(Asked.asked.values())))
+          "why_cases: %d sessions and %d reports by hand, %d tests of generated sessions and the lessons are as they"
+          " should be" % (len(CASES), len(ONE_REPORT) + 1, sum(Asked.asked.values())))
     sys.exit(bool(faults))
 
 
