@@ -4,20 +4,23 @@
     lesson.py make NAME GIVEN LESSON     records the lesson in words of file GIVEN; a mistake names it NAME
     lesson.py record NAME GIVEN LESSON   the same; a lesson that is recorded already stays as it is
     lesson.py show LESSON                its setup and messages, numbered, in words; `make` takes them
-    lesson.py tell LESSON LINES          the lines that were printed for it, each with what happened beside it
+    lesson.py tell LESSON LINES WHY BOOK the lines that were printed for it, each with what happened beside it
     lesson.py book LESSON LINES BOOK     the book after each message, drawn of the lines of the view `book`
     lesson.py book-lines BOOK            the same lines, in the order of the drawing
 
-LESSON is a recorded lesson; docs/TEACHER.md lists the words of one.  Where a line is wrong, NAME:LINE says how, the
-status is 1 and nothing is written.
+LESSON is a recorded lesson; docs/TEACHER.md lists the words of one.  LINES, WHY and BOOK are what the session program
+prints for it: the reports, and the views `why` and `book`.  Where a line is wrong, NAME:LINE says how, the status is 1
+and nothing is written.
 """
 
 import os
 import signal
 import sys
+from itertools import zip_longest
 
 from board import drawn, in_drawn_order
 from packed import messages_of
+from reasons import Offers, Reasons
 from sentences import Teller
 from source import is_recorded, one_lesson
 from words import Mistake, message_words, setup_words
@@ -57,13 +60,16 @@ def show(path):
         print(number, message_words(message))
 
 
-def tell(path, printed):
-    teller = Teller(messages_of(read(path)))
-    for number, line in enumerate(lines_of(printed), 1):
-        try:
-            print("%-34s  %s" % (line, teller.sentence(line)))
-        except Mistake as mistake:
-            raise Mistake("line %d: %s" % (number, mistake)) from None
+def tell(path, printed, reasons, resting):
+    messages = messages_of(read(path))
+    both = zip_longest(lines_of(printed), lines_of(reasons), fillvalue="")      # a line of each for every report and refusal
+    with open(resting, encoding="ascii", errors="backslashreplace") as book:
+        teller = Teller(messages, Reasons(Offers(messages, book)))
+        for number, (line, why) in enumerate(both, 1):
+            try:
+                print("%-34s  %s" % (line, teller.sentence(line, why)))
+            except Mistake as mistake:
+                raise Mistake("line %d: %s" % (number, mistake)) from None
 
 
 def book(path, printed, resting):
@@ -76,7 +82,7 @@ def book_lines(resting):
         print(line)
 
 
-COMMANDS = {("make", 3): make, ("record", 3): record, ("show", 1): show, ("tell", 2): tell,
+COMMANDS = {("make", 3): make, ("record", 3): record, ("show", 1): show, ("tell", 4): tell,
             ("book", 3): book, ("book-lines", 1): book_lines}
 
 

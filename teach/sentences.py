@@ -3,8 +3,9 @@
     1 1 0 0 0 0 0 0 0 0         message 1 is noted: open
     3 4 0 0 3 2 0 219 220 50    maker 3's MMRP buy quote, entry 2, rests: shown 219, works 220, 50 contracts
 
-Prices are in cents, as in the line.  A report does not carry what kind of entry it is of: that is
-told where the lesson's messages are at hand, and is left out where they are not.
+Prices are in cents, as in the line.  A report does not carry what kind of entry it is of, nor what a price rule compared:
+that is told where the lesson's messages and the reports' reasons (reasons.py) are at hand, and is left out where they
+are not.
 """
 
 from packed import *
@@ -45,23 +46,26 @@ def numbers_of(line):
 
 
 class Teller:
-    """Says one line after the other.  `messages` are the packed messages of the lesson, or None."""
+    """Says one line after the other.  `messages` are the packed messages of the lesson, or None; `reasons` is who says
+    what the lines of the view `why` tell, or None."""
 
-    def __init__(self, messages=None):
-        self.messages, self.last = messages, 0
+    def __init__(self, messages=None, reasons=None):
+        self.messages, self.reasons, self.last = messages, reasons, 0
         self.entered = {}       # entry number -> the message that entered it
         self.traded = set()     # who has been a taker
 
-    def sentence(self, line):
+    def sentence(self, line, why=""):
+        """What a line says; `why` is the line of the view `why` beside it."""
         number, answer = numbers_of(line)
         sent = self.sent(number, answer) if self.messages is not None and number > 0 else ""
+        reason = self.reasons.words(number, answer, why) if self.reasons is not None else ""
         if number == 0:
             return NO_SERIES
         if isinstance(answer, int):
             return "message %d is refused for %d (%s)%s" % (number, answer, REFUSALS[answer], sent)
         if answer[0] == NOTED:
             return "message %d is noted%s" % (number, sent)
-        return self.told(*answer)
+        return self.told(reason, *answer)
 
     def sent(self, number, answer):
         """The message that a line is of, in words; the entry that it enters is kept."""
@@ -80,7 +84,8 @@ class Teller:
         self.last = number
         return ": " + message_words(data)
 
-    def told(self, kind, reason, side, party, entry, other, price, second, quantity):
+    def told(self, words, kind, reason, side, party, entry, other, price, second, quantity):
+        """A report; `words` stand for those of its reason, where there are any."""
         who = self.who(entry, side, party)
         count = "%d contract%s" % (quantity, "" if quantity == 1 else "s")
         if kind == TRADED:
@@ -93,7 +98,7 @@ class Teller:
         done = "rejected" if kind == REJECTED else "cancelled"
         rest = "the rest of " if kind == CANCELLED and reason <= 23 and entry in self.traded else ""
         return "%s%s, is %s for %d (%s): limit %d, %s" % (
-            rest, who, done, reason, REASONS[reason], price, count)
+            rest, who, done, reason, words or REASONS[reason], price, count)
 
     def who(self, entry, side, party=None):
         """An entry, by what is known of it."""

@@ -87,7 +87,9 @@ def try_progress():
     first, *lines = re.sub(r", \d+ min \d+ s$", ", so long", err, flags=re.M).splitlines()
     expect("how far it is", (first, lines), (PROVING, ["waxglimmer: %d of 3 crates proved, so long" % done for done in (1, 2, 3)]))
     expect("the second run", (copy.run("run"), copy.checks()), ((0, "played  37\n", ""), 1))
-    expect("a view of the program", copy.run("session", "book"), (0, "played book 37\n", ""))
+    for view in ("book", "why"):
+        expect("a view of the program", copy.run("session", view), (0, "played %s 37\n" % view, ""))
+    expect("why", copy.run("why"), (0, "played why 37\n", ""))
     expect("nothing is left behind", sorted(os.listdir(copy.root)), [".ci", "crates", "crates.txt", "kit", "target", "teach", "waxglimmer"])
     os.utime(copy.path("target/bin/session"), (1e9, 1e9))
     for case in ("a run after a change", "a run after that"):
@@ -135,7 +137,7 @@ def try_no_kit():
     copy = Copy("no kit")
     kit = read(copy.path(".ci/kit")).strip()
     env = path_without("no rt", "rt")
-    for command, given in (("run", DATA), ("run", WORDS), ("tell", WORDS), ("book", WORDS)):
+    for command, given in (("run", DATA), ("run", WORDS), ("why", DATA), ("why", WORDS), ("tell", WORDS), ("book", WORDS)):
         not_done("waxglimmer: the session program is not built, and there is no 'rt' to build it: Rattle's kit is needed (%s)" % kit,
                  command, script=copy.script, stdin=given, env=env)
     expect("show without a program", copy.run("show", stdin=WORDS, env=env)[::2], (0, ""))
@@ -153,8 +155,8 @@ def try_endings():
     for ending, reason in (("exit 3", "waxglimmer: the session program ended with status 3"), ("kill -9 $$", "ended with status 137"),
                            ("echo session: standard input >&2; exit 0", "session: standard input")):
         copy.write("target/bin/session", "#!/bin/sh\n%s\n" % ending)
-        not_done(reason, "run", script=copy.script, stdin=DATA, env=copy.env)
-        not_done(reason, "tell", script=copy.script, stdin=DATA, env=copy.env)
+        for command in ("run", "why", "tell"):
+            not_done(reason, command, script=copy.script, stdin=DATA, env=copy.env)
 
 
 def try_two_at_once():

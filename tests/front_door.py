@@ -16,10 +16,11 @@ import subprocess
 import tempfile
 
 from cases import DOCUMENTS, HERE, ROOT, every_lesson, expect, finish, lessons_to_copy, read
-from lesson_cases import BEGINNINGS
+from lesson_cases import BEGINNINGS, reason_told
+from reason_lessons import LESSONS, read_lesson
 
 DOOR = os.path.join(ROOT, "waxglimmer")
-PLAYING = ("run", "show", "tell", "book")
+PLAYING = ("run", "why", "show", "tell", "book")
 LESSON = os.path.join(HERE, "recorded", "worked-session.bin")
 LINES = read(LESSON[:-4] + ".out")
 WORDS = read(os.path.join(ROOT, "teach", "lessons", "one-away-move.txt"))
@@ -75,7 +76,7 @@ def try_help():
         expect("help names " + command, "./waxglimmer %s " % command in wanted[1], True)
     example = "".join(re.findall(r"^    (\w.*\n)", wanted[1], re.M))
     expect("help's example is played", door("run", stdin=example)[1].split("\n")[0], "1 1 0 0 0 0 0 0 0 0")
-    for typed, right in (("rnu", "run"), ("runn", "run"), ("ru", "run"), ("fun", "run"), ("shwo", "show"), ("tel", "tell"),
+    for typed, right in (("rnu", "run"), ("runn", "run"), ("ru", "run"), ("fun", "run"), ("shwo", "show"), ("tel", "tell"), ("wy", "why"),
                          ("bok", "book"), ("mske", "make"), ("tets", "test"), ("helpp", "help"), ("sing", ""), ("", "")):
         status, out, err = door(typed)
         listed, _, last = err.rstrip("\n").rpartition("\n")
@@ -87,13 +88,18 @@ def try_help():
 # ---------------------------------------------------------------- lessons
 
 def try_lesson(path):
-    """One lesson in words and recorded: run prints its lines, tell keeps them, book draws each message."""
+    """One lesson in words and recorded: run prints its lines, why their reasons, tell keeps both, book draws each message."""
     text, wanted, name = shown(path), read(path[:-4] + ".out"), os.path.basename(path)
     expect("run in words " + name, door("run", stdin=text), (0, wanted, ""))
     expect("run " + name, door("run", path), (0, wanted, ""))
+    reasons = door("session", "why", stdin=read(path, "rb"))[1]
+    expect("why in words " + name, door("why", stdin=text), (0, reasons, ""))
+    expect("why " + name, door("why", path), (0, reasons, ""))
     status, out, err = door("tell", stdin=text)
     kept = ["%-34s  " % line for line in wanted.splitlines()]
     expect("tell " + name, (status, [line[:len(begin)] for line, begin in zip(out.splitlines(), kept)], err), (0, kept, ""))
+    figures = [line.split()[3:] for line in reasons.replace(" 0 0\n", "\n").splitlines()]
+    expect("the figures of tell " + name, [re.findall(r"\d+", reason_told(line)) for line in out.splitlines()], figures)
     try_book(path, text, name)
 
 
@@ -131,8 +137,17 @@ def try_lessons():
     for path in lessons_to_copy():
         for command in PLAYING:
             expect("%s %s" % (command, path), door(command, path)[::2], (0, ""))
-    expect("book of a setup that is refused", door("book", "--lines", os.path.join(HERE, "recorded", "short-setup.bin")),
-           (0, "0 refused 1\n", ""))
+    for command in (("book", "--lines"), ("why",)):
+        expect("%s of a setup that is refused" % command[0], door(*command, os.path.join(HERE, "recorded", "short-setup.bin")),
+               (0, "0 refused 1\n", ""))
+
+
+def try_why():
+    """The reasons that were written out by hand, and what is said of them."""
+    for name, text in LESSONS.items():
+        data, whys, said = read_lesson(text)
+        expect("why: " + name, door("why", stdin=data), (0, "".join(line + "\n" for line in whys), ""))
+        expect("told why: " + name, [reason_told(line) for line in door("tell", stdin=data)[1].splitlines()], said)
 
 
 # ---------------------------------------------------------------- places and pipes
@@ -158,6 +173,7 @@ def try_places():
                 expect("%s %s on a pipe" % (command, name), door(command, *rest, stdin=given), wanted[command])
     expect("--lines behind", door("book", LESSON, "--lines"), door("book", "--lines", LESSON))
     not_done("book has no option --line ", "book", LESSON, "--line")
+    not_done("the session program has no view 'sing': it is book or why, or nothing for the reports", "session", "sing")
     expect("a name in a pipe", shell('"$door" run <("$door" show %s)' % shlex.quote(LESSON)), (0, LINES, ""))
     expect("a file's name alone", door("my lesson.txt", cwd="a folder")[2].split("\n")[-2],
            "waxglimmer: there is no command 'my lesson.txt'; to play that file: ./waxglimmer run 'my lesson.txt'")
@@ -172,8 +188,8 @@ def answered(process):
 def try_live():
     """What a message gives is printed before more input is waited for; after a refused setup nothing is waited for."""
     data = read(LESSON, "rb")
-    for setup in (data[:4], bytes.fromhex("d4504e44")):
-        process = subprocess.Popen([DOOR, "run"], stdin=subprocess.PIPE, stdout=subprocess.PIPE, bufsize=0)
+    for command, setup in (("run", data[:4]), ("run", bytes.fromhex("d4504e44")), ("why", data[:4])):
+        process = subprocess.Popen([DOOR, command], stdin=subprocess.PIPE, stdout=subprocess.PIPE, bufsize=0)
         for number, part in enumerate((setup + data[4:15], data[15:26], data[26:30], data[30:37]), 1):
             process.stdin.write(part)
             if number != 3:     # the third message comes in two parts
@@ -263,8 +279,10 @@ def try_without():
     env = path_without("no python", "python", "pypy")
     expect("run without python3", door("run", LESSON, env=env), (0, LINES, ""))
     expect("run of a pipe without python3", door("run", stdin=read(LESSON, "rb"), env=env), (0, LINES, ""))
+    expect("why without python3", door("why", LESSON, env=env), door("why", LESSON))
     expect("help without python3", door("help", env=env), door("help"))
-    not_done("waxglimmer: python3 is needed to read a lesson in words", "run", stdin=WORDS, env=env)
+    for command in ("run", "why"):
+        not_done("waxglimmer: python3 is needed to read a lesson in words", command, stdin=WORDS, env=env)
     for command in ("show", "tell", "book", "make"):
         not_done("waxglimmer: python3 is needed for %s" % command, command, LESSON, env=env)
     env = path_without("no rt", "rt")
@@ -309,7 +327,7 @@ if __name__ == "__main__":
     subprocess.run([DOOR, "run", LESSON], stdout=subprocess.DEVNULL)       # builds the program where it is not built
     with tempfile.TemporaryDirectory() as folder:
         os.chdir(folder)
-        for part in (try_help, try_lessons, try_places, try_live, try_closed_readers, try_reasons, try_make, try_without,
+        for part in (try_help, try_lessons, try_why, try_places, try_live, try_closed_readers, try_reasons, try_make, try_without,
                      try_documents):
             part()
         os.chdir(HERE)

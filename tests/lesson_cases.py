@@ -120,11 +120,26 @@ def run(*arguments):
     return status, out.getvalue(), err.getvalue()
 
 
-def told(path, lines):
-    """What `tell` says of lines, for the lesson of a file."""
-    with open("mine.out", "w", encoding="utf-8") as file:
-        file.write(lines)
-    return run("tell", path, "mine.out")
+def made_up(lines):
+    """Lines of the view `why` for these reports, in which the price rules have figures that nobody worked out: whatever
+    the program gives is said."""
+    whys, last = [], (None, 0)
+    for at, line in enumerate(lines):
+        number, kind, rule, side = (line.split() + [""] * 4)[:4]
+        last = number, last[1] + 1 if number == last[0] else 0
+        is_low_first = rule in ("20", "21") and side == "1" or rule == "23" and side == "0"
+        figures = (600000 + at, 700000 + at) if is_low_first else (700000 + at, 600000 + at)
+        reason = "%s %d %d" % (rule, *(figures if rule < "27" else (0, 0))) if kind in ("2", "6") else "none"
+        whys.append(line if kind == "refused" else "%s %d %s" % (*last, reason))
+    return whys
+
+
+def told(path, lines, whys=None, book=()):
+    """What `tell` says of lines, for the lesson of a file, with the reasons beside them and the lines of the books."""
+    for name, given in (("mine.out", lines), ("mine.why", made_up(lines) if whys is None else whys), ("mine.book", book)):
+        with open(name, "w", encoding="utf-8") as file:
+            file.write("".join(line + "\n" for line in given))
+    return run("tell", path, "mine.out", "mine.why", "mine.book")
 
 
 def made(text, encoding="utf-8"):
@@ -153,7 +168,8 @@ def try_mistakes():
     made(SETUP + "\n")
     for arguments in (("show", "nothing.bin"), ("make", "it", "nothing.txt", "mine.bin"), ("show", "."),
                       ("make", "it", "mine.txt", "no/mine.bin"), ("make", "it", "mine.bin", "other.bin"),
-                      ("tell", "nothing.bin", "mine.out"), ("book", "mine.bin", "no.out", "no.book"),
+                      ("tell", "nothing.bin", "mine.txt", "mine.txt", "mine.txt"), ("tell", "mine.bin", "mine.txt"),
+                      ("tell", "mine.bin", "mine.txt", "mine.txt", "no.book"), ("book", "mine.bin", "no.out", "no.book"),
                       ("book-lines", "no.book"), ("make", "it", "mine.txt"), ("sing", "mine.bin")):
         status, out, err = run(*arguments)
         expect(" ".join(arguments), (status, out, err != ""), (1, "", True))
@@ -216,7 +232,8 @@ def try_standard_output():
     tool = [sys.executable, os.path.join(ROOT, "teach", "lesson.py")]
     env = {name: value for name, value in os.environ.items() if name != "PYTHONUNBUFFERED"}
     for path in (os.path.join(HERE, "recorded", "mixed-01"), os.path.join(HERE, "lessons", "example-e")):
-        for command in (["show", path + ".bin"], ["tell", path + ".bin", path + ".out"]):
+        told(path + ".bin", read(path + ".out").splitlines())
+        for command in (["show", path + ".bin"], ["tell", path + ".bin", "mine.out", "mine.why", "mine.book"]):
             reading, writing = os.pipe()
             os.close(reading)
             done = subprocess.run(tool + command, stdout=writing, stderr=subprocess.PIPE, env=env)
@@ -265,14 +282,20 @@ def kinds_of(data):
     return kinds
 
 
+def reason_told(sentence):
+    """What stands in brackets behind the number of a reason; nothing in a sentence that has none."""
+    told = re.search(r" is (?:rejected|cancelled) for \d+ \(([^)]*)\): limit ", sentence)
+    return told.group(1) if told else ""
+
+
 def try_sentences():
     for path in every_lesson():
-        data, lines = read(path, "rb"), read(path[:-4] + ".out")
+        data, lines = read(path, "rb"), read(path[:-4] + ".out").splitlines()
         status, out, err = told(path, lines)
-        expect("tell " + path, (status, err, len(out.split("\n"))), (0, "", len(lines.split("\n"))))
+        expect("tell " + path, (status, err, out.count("\n")), (0, "", len(lines)))
         played = "/lessons/" in path and unpack_setup(data[:4]) is not None
         kinds, takers = kinds_of(data) if played else None, set()
-        for line, both in zip(lines.split("\n")[:-1], out.split("\n")):
+        for line, why, both in zip(lines, made_up(lines), out.split("\n")):
             sentence = both[len(line):].strip()
             expect("tell " + path, both[:len(line)], line)
             number, _, rest = line.partition(" ")
@@ -280,6 +303,8 @@ def try_sentences():
                 sent = message_words(messages_of(data)[int(number) - 1]) if number != "0" else "no series"
                 expect("tell %s: %s" % (path, line), sentence.endswith(": " + sent), True)
                 continue
+            figures = re.findall(r"\d+", reason_told(sentence))
+            expect("figures in %s: %s" % (path, line), figures, [word for word in why.split()[3:] if word != "0"])
             fields, names = line_told(sentence, takers)
             takers |= {rest.split()[4]} if rest.startswith("3 ") else set()
             expect("tell %s: %s" % (path, line), fields, rest)
@@ -292,10 +317,10 @@ def try_lines_alone():
         expect("tell: " + line, Teller().sentence(line), sentence)
     path = os.path.join(HERE, "lessons", "31-phases.bin")
     for line in NO_LINES:
-        status, out, err = told(path, "1 refused 1\n%s\n" % line)
+        status, out, err = told(path, ["1 refused 1", line])
         expect("tell: " + line, (status, out.count("\n"), err[:8], "; expected" in err), (1, 1, "line 2: ", True))
     for name in ("full-book-of-64", "refusal-1-bytes-that-hold-no-message", "examples-a-b-c"):
-        status, out, err = told(path, read(os.path.join(HERE, "lessons", name + ".out")))
+        status, out, err = told(path, read(os.path.join(HERE, "lessons", name + ".out")).splitlines())
         expect("tell of another lesson than " + name, (status, err[:5]), (1, "line "))
 
 
@@ -319,7 +344,7 @@ def try_lessons_to_copy():
         expect(path, (said, data), ((0, "", ""), known.get(name, data)))
         expect(path, read(path).startswith("# "), True)
     data = made(read(names["cancel-reveals-nothing"]))[0]
-    out = told("mine.bin", "".join(line + "\n" for line in session(data)))[1]
+    out = told("mine.bin", session(data))[1]
     expect("cancel-reveals-nothing", [line[36:] for line in out.split("\n")], SAID.split("\n"))
     for path in DOCUMENTS:
         for block in blocks_of(read(path)):
