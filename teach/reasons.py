@@ -2,13 +2,13 @@
 
     4 0 20 225 220      bid 225 is not below the away offer 220
 
-The figures are those that the session program's view `why` prints, a line for each report, places counted from 0; where
-no reason is to give it prints `4 0 none`.  No figure is worked out here.
+The figures are those that the session program prints in its view `why`, a line for each report: the message, the
+report's place counted from 0, the rule and its figures; or `4 0 none`, or `4 refused 8`.  None is worked out here.
 
 One thing the figures do not tell.  Of a bid, 24 compares the bid with NBO+100 where NBO is at most 100, and twice
-(bid-NBO) with NBO where it is above.  A bid of 202 gives 202 and 101 with NBO 1, and with NBO 101 too; so it is wherever
-the bid is twice the second figure, and that is at most 200.  So it is looked up whether anything was offered at 100 or
-less as the bid came: by the away offer of the lesson's messages, or by a sell in the program's view `book`.
+(bid-NBO) with NBO where it is above.  A bid of 202 gives 202 and 101 with NBO 1, and with NBO 101 too; so does every bid
+that is twice the second figure, where that is from 101 to 200.  So it is looked up whether anything was offered at 100
+or less as the bid came: in the lesson's messages the away offer, in the program's view `book` what the sells show.
 """
 
 from functools import cached_property

@@ -23,6 +23,7 @@ from sentences import Teller
 from source import one_lesson
 from words import Mistake
 
+
 def kept(data):
     """The file of a recorded lesson."""
     with open("mine.bin", "wb") as file:
@@ -87,8 +88,8 @@ def try_halves():
             met[nbo <= 100, bid == 2 * figures[1]] += 1
         out = told(kept(data), lines, whys, books(data))[1].split("\n")
         expect("24 in %s" % data.hex(), {at: reason_told(out[at]) for at in wanted}, wanted)
-    expect("both halves, where the figures tell them and where not", [met[half, told] >= 5 for half in (0, 1) for told in (0, 1)],
-           [True] * 4)
+    often = [met[is_small, is_open] >= 5 for is_small in (0, 1) for is_open in (0, 1)]
+    expect("both halves, where the figures tell them and where not", often, [True] * 4)
 
 
 # ---------------------------------------------------------------- reasons of other reports
