@@ -33,7 +33,8 @@ use Rattle.terms.specs.Terms.{marketOf}
 use Rattle.arrival.specs.Cancel.{cutQuote}
 use Rattle.arrival.specs.Take.{Taking, took}
 use Rattle.arrival.specs.Post.{pricesOf, asPosted, stopFor}
-use Rattle.arrival.specs.Arrive.{reported, ofQuotes, bothQuotes, rejectedBy, replaced, bookLeft, cancelledRest, finished, entered, rejection, arrivedAs, arrived}
+use Rattle.arrival.specs.Arrive.{reported, ofQuotes, bothQuotes, rejectedBy, replaced, bookLeft, cancelledRest, finished, entered}
+use Rattle.arrival.specs.Arrive.{rejection, arrivedAs, arrived}
 use Rattle.arrival.specs.Asks.{Arriving}
 use Rattle.arrival.proofs.ReasonLaws.{stop-among, rejection-among}
 use Rattle.arrival.proofs.TakeLaws.{took-few, took-length, took-left, took-all, took-sound, took-packs, took-clears}

@@ -37,7 +37,8 @@ use Rattle.terms.specs.Terms.{marketOf}
 use Rattle.arrival.specs.Cancel.{cutQuote}
 use Rattle.arrival.specs.Take.{Taking, took}
 use Rattle.arrival.specs.Post.{pricesOf, asPosted, stopFor}
-use Rattle.arrival.specs.Arrive.{reported, bothQuotes, rejectedBy, replaced, finished, entered, noneTraded, rejection, arrivedAs, arrived, blocks, tradesOf}
+use Rattle.arrival.specs.Arrive.{reported, bothQuotes, rejectedBy, replaced, tradesOf, finished, entered, noneTraded}
+use Rattle.arrival.specs.Arrive.{rejection, arrivedAs, arrived, blocks}
 use Rattle.arrival.specs.Asks.{Arriving}
 use Rattle.arrival.proofs.ReasonLaws.{rejection-among, order-passes}
 use Rattle.arrival.proofs.TakeLaws.{took-all, took-sound}

@@ -119,7 +119,8 @@ module _ (t : Terms) (e : Entry) (l : List Entry) (left top : ℕ) (mk : MarketF
 
   -- at its limit, with nothing there: what is displayed there it has taken, unless 20 stopped it, and for what is not 21 would have
   at-limit : minds (e .kind) ≡ false → (not (eqb (away (marketOf t) (e .sell)) 0) && reaches (e .sell) (e .limit) (away (marketOf t) (e .sell))) ≡ false
-      → holds (e .sell) (test21 (e .kind) (e .limit) (hiddenFor e l)) ≡ false → (i : ℕ) (y : Entry) → At l i y → against (e .sell) y ≡ true → seen (e .sell) (e .limit) < seen (e .sell) (y .working)
+      → holds (e .sell) (test21 (e .kind) (e .limit) (hiddenFor e l)) ≡ false → (i : ℕ) (y : Entry) → At l i y → against (e .sell) y ≡ true
+      → seen (e .sell) (e .limit) < seen (e .sell) (y .working)
   at-limit mi b20 b21 i y at f = by (light (e .kind)) refl (displayed y) refl b21
     where
       far : eligible (e .sell) (shownOnly e) y ≡ true → seen (e .sell) (e .limit) < seen (e .sell) (y .working)

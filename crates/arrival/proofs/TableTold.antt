@@ -104,7 +104,8 @@ module _ {t : Terms} {e : Entry} {l : List Entry} (a : Arriving t e l) where
   rejection-told why some h = record {
     first = reason-first (e .sell) (testsPut t e l l) (tests-apart t e l l) why some (rejected-by t e l why some h);
     best = λ q. subst (λ (n : ℕ). BestUndisplayed (e .sell) l (figuresOf n (testsPut t e l l) .second)) (sym q)
-        (way-best e l (facts-of a .1) (is-21 (of-stop t e l 21 (omega arith) (rejection-first t e l (facts-of a .1) .told 21 (omega arith) (h ∙ q) .holds) .1)));
+        (way-best e l (facts-of a .1)
+        (is-21 (of-stop t e l 21 (omega arith) (rejection-first t e l (facts-of a .1) .told 21 (omega arith) (h ∙ q) .holds) .1)));
   }
 
   pub rest-told : (why left : ℕ) → RestStopped t e l why left → Told t e l (bookLeft t e l) why

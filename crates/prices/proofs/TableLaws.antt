@@ -74,15 +74,15 @@ Fails s x = x .put ≡ true → Compares (x .when) s (x .figures) → ⊥
 -- THE FIRST TEST OF A TABLE THAT HOLDS: it has number n, it was put, it compared the figures f, its comparison holds of them, and every test before it that was
 -- put fails of its own
 pub record FirstTest (s : Bool) (xs : List Test) (n : ℕ) (f : Figures) : Type 0 where
-  pub before : List Test
+  pub earlier : List Test
   pub test : Test
-  pub after : List Test
-  pub table : xs ≡ before ++ (test ∷ after)
+  pub later : List Test
+  pub table : xs ≡ earlier ++ (test ∷ later)
   pub rule : test .rule ≡ n
   pub put : test .put ≡ true
   pub figures : test .figures ≡ f
   pub holds : Compares (test .when) s f
-  pub none-before : All (Fails s) before
+  pub none-earlier : All (Fails s) earlier
 
 -- every rule has one test
 abbrev pub Apart : List Test → Type 0
@@ -103,32 +103,32 @@ reason-first s (x ∷ xs) a n some h = by (holds s x) refl h (λ k. reason-first
     by true q k more =
         let same : x .figures ≡ figuresOf n (x ∷ xs) = rw (eq-eqb n (x .rule) (sym k)) refl in
         record {
-          before = [];
+          earlier = [];
           test = x;
-          after = xs;
+          later = xs;
           table = refl;
           rule = k;
           put = and-left (x .put) _ q;
           figures = same;
           holds = subst (Compares (x .when) s) same (compared-decides (x .when) s (x .figures) .0 (and-right (x .put) _ q));
-          none-before = tt;
+          none-earlier = tt;
         }
     by false q k more =
         let r = more k in
-        let other : n ≡ x .rule → ⊥ = λ z. among (λ (y : Test). x .rule ≡ y .rule → ⊥) (r .before) (r .test) (r .after)
+        let other : n ≡ x .rule → ⊥ = λ z. among (λ (y : Test). x .rule ≡ y .rule → ⊥) (r .earlier) (r .test) (r .later)
         (subst (All (λ (y : Test). x .rule ≡ y .rule → ⊥)) (r .table) (a .0)) (sym z ∙ sym (r .rule)) in
         let same : figuresOf n xs ≡ figuresOf n (x ∷ xs) = rw (ne-eqb n (x .rule) other) refl in
         record {
-          before = x ∷ r .before;
+          earlier = x ∷ r .earlier;
           test = r .test;
-          after = r .after;
+          later = r .later;
           table = ap (λ (ys : List Test). x ∷ ys) (r .table);
           rule = r .rule;
           put = r .put;
           figures = r .figures ∙ same;
           holds = subst (Compares (r .test .when) s) same (r .holds);
-          none-before = (
+          none-earlier = (
             λ p c. clash (and-both (x .put) _ p (compared-decides (x .when) s (x .figures) .1 c)) q,
-            r .none-before,
+            r .none-earlier,
           );
         }

@@ -57,7 +57,8 @@ module _ (s : Series) (a b : List ℕ) where
       ∙ sym (ap (λ (z : Bool). refusedOr (firstOf z 10 (not (soundSeries s)) 11) s b (heard s b event) .answer) (le-ltb (length b) roomSize k))
 
 -- reports stored at the front of another room
-stored-front : (room held : List ℕ) (rs : List Report) (n : ℕ) → n ≡ 14 * length rs → n ≤ length held → sets room 0 (take n (written held 0 rs)) ≡ written room 0 rs
+stored-front : (room held : List ℕ) (rs : List Report) (n : ℕ) → n ≡ 14 * length rs → n ≤ length held
+    → sets room 0 (take n (written held 0 rs)) ≡ written room 0 rs
 unfolding written
 stored-front room held rs n is fits =
     ap (sets room 0) (ap (take n) (written-parts held 0 rs (omega (arith, is))) ∙ take-at (packedAll rs) _ n (omega (arith, is, length-packedAll rs)))

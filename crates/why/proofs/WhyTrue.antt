@@ -77,7 +77,8 @@ module _ (s : Series) (a : Ask) (ok : Accepted s a) where
   abbrev Holds : Report → Type 0
   Holds r = TrueOf s a r (reasonFor s a r)
 
-  told-true : (k : enters (a .kind) ≡ true) (posting : List Entry) (why : ℕ) → Told (s .terms) (comerOf s a) (entriesOf (s .book)) posting why → (xs : List Test)
+  told-true : (k : enters (a .kind) ≡ true) (posting : List Entry) (why : ℕ) → Told (s .terms) (comerOf s a) (entriesOf (s .book)) posting why
+      → (xs : List Test)
       → xs ≡ testsPut (s .terms) (comerOf s a) (entriesOf (s .book)) posting → TrueReason s a posting why (given why (figuresOf why xs))
   told-true k posting why x xs same = record {
     enters = k;
@@ -110,7 +111,8 @@ module _ (s : Series) (a : Ask) (ok : Accepted s a) where
         stops = λ why left r. record {
           rest = λ low. (
             refl,
-            told-true k (bookLeft (s .terms) (comerOf s a) (entriesOf (s .book))) why (rest-told (accepted-arriving s a ok k) why left r) (leftTests s a) (rw k refl),
+            told-true k (bookLeft (s .terms) (comerOf s a) (entriesOf (s .book))) why (rest-told (accepted-arriving s a ok k) why left r) (leftTests s a)
+                (rw k refl),
           );
           zeros = λ high. absurd (omega (
             arith,

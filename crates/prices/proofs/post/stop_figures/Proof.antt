@@ -67,7 +67,13 @@ returns-5 c =
     let at-if3 : tie.Else3 = search in
     let at-if2 : tie.Else2 = search in
     let at-if1 : tie.Else1 = search in
-    λ _. rw (ne-eqb _ _ (at-if1 .if1 .left), ne-eqb _ _ (at-if2 .if2 .left), ne-eqb _ _ (at-if3 .if3 .left), ne-eqb _ _ (at-if4 .if4 .left)) (c .figures5 .ensures)
+    λ _.
+    rw (
+      ne-eqb _ _ (at-if1 .if1 .left),
+      ne-eqb _ _ (at-if2 .if2 .left),
+      ne-eqb _ _ (at-if3 .if3 .left),
+      ne-eqb _ _ (at-if4 .if4 .left),
+    ) (c .figures5 .ensures)
 
 pub stop-figures-spec : {M : Type 1} → statement M
 stop-figures-spec =
