@@ -24,7 +24,7 @@ use Rattle.telling.specs.Tell.{rejected, traded, rested, cancelled}
 use Rattle.terms.specs.declared.Terms.{Terms}
 use Rattle.terms.specs.Terms.{marketOf}
 use Rattle.arrival.specs.Cancel.{cut, cutQuote}
-use Rattle.arrival.specs.Take.{Taking, bound, took}
+use Rattle.arrival.specs.Take.{Taking, bound}
 use Rattle.arrival.specs.Post.{pricesOf, asPosted, stopFor}
 use Rattle.arrival.specs.Arrive.{ofQuotes, bothQuotes, rejectedBy, replaced, tradesOf, finished, entered, rejection, arrivedAs, arrived}
 use Rattle.arrival.proofs.ReasonLaws.{rejected-quote}

@@ -46,7 +46,7 @@ use Rattle.arrival.specs.Cancel.{Asks, cutQuote}
 use Rattle.arrival.specs.Take.{Taking, bound, offered, nextTake, chances, taken, took}
 use Rattle.arrival.specs.Post.{pricesBefore, pricesOf, asPosted, stopFor, Posts}
 use Rattle.arrival.specs.Arrive.{reported, ofQuotes, bothQuotes, rejectedBy, posted, cancelledRest, finished, entered}
-use Rattle.arrival.specs.Arrive.{noneTraded, stopsAtOnce, barsBefore, protectionFor, orElse, rejection, arrivedAs, arrived}
+use Rattle.arrival.specs.Arrive.{noneTraded, stopsAtOnce, barsAgainst, protectionFor, orElse, rejection, arrivedAs, arrived}
 use Rattle.arrival.specs.Asks.{trades, Arriving, Enters, nextTrade, tradeAs, Rests, Finishes}
 use Rattle.telling.proofs.StageLaws.{roomy-first, staged-then, staged-room, staged-none, staged-as, staged-go, roomy-as}
 use Rattle.arrival.proofs.TakeLaws.{take-falls, takes-now}
@@ -113,9 +113,9 @@ national-cents {t} {e} {f} {b} n =
     record { best = rw (n .faces .national) (if-any-high g); limit = is-legal (t .m) (e .limit) (n .arriving .limit) .high }
 
 pub protected-by : {t : Terms} {e : Entry} {f : Facing} {b : Book} → Enters t e f b
-    → reasonOf (e .sell) (barsBefore t e (f .national)) ≡ protectionFor t e (entriesOf b)
+    → reasonOf (e .sell) (barsAgainst t e (f .national)) ≡ protectionFor t e (entriesOf b)
 unfolding protectionFor
-protected-by {t} {e} n = ap (λ (best : ℕ). reasonOf (e .sell) (barsBefore t e best)) (n .faces .national)
+protected-by {t} {e} n = ap (λ (best : ℕ). reasonOf (e .sell) (barsAgainst t e best)) (n .faces .national)
 
 -- whether there is a next trade
 abbrev pub going : Next → Bool

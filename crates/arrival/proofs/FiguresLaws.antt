@@ -12,15 +12,15 @@ use Rattle.book.specs.Entries.{quote}
 use Rattle.terms.specs.declared.Terms.{Terms}
 use Rattle.terms.specs.Terms.{guardOf}
 use Rattle.arrival.specs.Post.{stopsIn}
-use Rattle.arrival.specs.Arrive.{barsBefore, testsBefore}
+use Rattle.arrival.specs.Arrive.{barsAgainst, testsAgainst}
 
 module _ (t : Terms) (e : Entry) (best : ℕ) (l : List Entry) (n : ℕ) where
-  pub figures-bar : 24 ≤ n → figuresOf n (bars (guardOf t) (e .sell) best (e .limit)) ≡ figuresOf n (testsBefore t e best l)
+  pub figures-bar : 24 ≤ n → figuresOf n (bars (guardOf t) (e .sell) best (e .limit)) ≡ figuresOf n (testsAgainst t e best l)
   figures-bar h =
       sym (figures-only n (quote e) (bars (guardOf t) (e .sell) best (e .limit)))
-      ∙ sym (figures-front n (barsBefore t e best) (stopsIn t e l)
+      ∙ sym (figures-front n (barsAgainst t e best) (stopsIn t e l)
       (λ z. omega (arith, z), (λ z. omega (arith, z), (λ z. omega (arith, z), (λ z. omega (arith, z), tt)))))
 
-  pub figures-stop : n ≤ 23 → figuresOf n (stopsIn t e l) ≡ figuresOf n (testsBefore t e best l)
+  pub figures-stop : n ≤ 23 → figuresOf n (stopsIn t e l) ≡ figuresOf n (testsAgainst t e best l)
   figures-stop h =
-      sym (figures-behind n (barsBefore t e best) (stopsIn t e l) (λ z. omega (arith, z), (λ z. omega (arith, z), (λ z. omega (arith, z), tt))))
+      sym (figures-behind n (barsAgainst t e best) (stopsIn t e l) (λ z. omega (arith, z), (λ z. omega (arith, z), (λ z. omega (arith, z), tt))))

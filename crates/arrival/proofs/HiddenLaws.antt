@@ -2,27 +2,26 @@
 -- applies exactly if there is an undisplayed entry within the limit.
 -- Assumes nothing.
 use Prim.Native.Nat.{ℕ, _≤_, _<_}
-use mathlib.Core.Path.{_≡_, refl, sym, ap, subst, _∙_}
+use mathlib.Core.Path.{_≡_, refl, sym, subst}
 use mathlib.Core.Bool.{Bool, true, false, cond, not, _&&_}
 use mathlib.Core.List.{List}
-use mathlib.Core.Logic.{_⊎_, inl, inr, ⊎-elim}
+use mathlib.Core.Logic.{_⊎_, ⊎-elim}
 use native.Mathlib.Omega.{arith}
 use lib.Dec.{eqb}
-use borrow.Author.Tests.{eqb-true, eqb-false, ne-eqb, not-true}
+use borrow.Author.Tests.{eqb-false, ne-eqb}
 use Rattle.prices.specs.Side.{reaches}
 use Rattle.prices.specs.Test.{holds}
 use Rattle.prices.specs.Post.{test21}
 use Rattle.prices.proofs.FrameLaws.{seen, reaches-false}
 use Rattle.prices.proofs.StepLaws.{present}
-use Rattle.prices.proofs.StopLaws.{AtHidden, decides-hidden}
+use Rattle.prices.proofs.StopLaws.{decides-hidden}
 use Rattle.kinds.specs.Kinds.{light}
 use Rattle.lists.specs.Places.{At}
-use Rattle.lists.proofs.Bools.{clash}
 use Rattle.lists.proofs.FirstLaws.{Decides}
 use Rattle.book.specs.declared.Entry.{Entry}
 use Rattle.book.specs.Entries.{display, displayed, against}
-use Rattle.book.specs.Look.{hidden, bestHidden}
-use Rattle.book.proofs.OfferLaws.{AsGood, Best, none-or-some, positive}
+use Rattle.book.specs.Look.{hiddenPrice, bestHidden}
+use Rattle.book.proofs.OfferLaws.{AsGood, none-or-some, positive}
 use Rattle.book.proofs.LookLaws.{Offered, hidden-price-tells}
 use Rattle.soundness_theory.proofs.Facts.{Sound}
 use Rattle.soundness_theory.proofs.FrontLaws.{seen-good}
@@ -50,7 +49,7 @@ module _ {m top : ℕ} (s : Bool) (l : List Entry) (so : Sound m top l) where
   abbrev best : ℕ
   best = bestHidden s l
 
-  offers : (i : ℕ) (y : Entry) → Undisplayed s l i y → Offered hidden s l (y .working)
+  offers : (i : ℕ) (y : Entry) → Undisplayed s l i y → Offered hiddenPrice s l (y .working)
   offers i y u = record {
     place = i;
     entry = y;

@@ -21,7 +21,7 @@ use Rattle.lists.proofs.ChooseLaws.{Tells}
 use Rattle.packing.specs.declared.report.Report.{Report}
 use Rattle.book.specs.declared.Entry.{Entry}
 use Rattle.book.specs.Entries.{quote, quoteOf, display, against}
-use Rattle.book.specs.Look.{working, facing, nearest, contra, national, eligible, bestContra, hidden, bestHidden, quoteIn}
+use Rattle.book.specs.Look.{working, facing, nearest, contra, national, eligible, bestContra, hiddenPrice, bestHidden, quoteIn}
 use Rattle.book.proofs.LookLaws.{ContraTells, contra-tells, quote-tells}
 use Rattle.soundness_theory.proofs.Facts.{Sound}
 use Rattle.soundness_theory.proofs.FrontLaws.{cost-is}
@@ -74,7 +74,7 @@ module _ (s : Bool) (x : Entry) (own : against s x ≡ false) where
   -- so is what 21 looks for
   own-hidden : (l : List Entry) (i : ℕ) → At l i x → bestHidden s (without i l) ≡ bestHidden s l
   unfolding nearest
-  own-hidden l i h = facing-from hidden l i 0 0 0 h
+  own-hidden l i h = facing-from hiddenPrice l i 0 0 0 h
 
 module _ {m top : ℕ} (e x : Entry) (own : against (e .sell) x ≡ false) (l : List Entry) (so : Sound m top l) (i : ℕ) (at : At l i x) where
   -- and whether the best contra entry is within a bound

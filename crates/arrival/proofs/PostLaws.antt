@@ -8,7 +8,7 @@ use mathlib.Core.Bool.{Bool, true, false, cond, not, _&&_}
 use mathlib.Core.List.{List, [], _∷_}
 use native.Mathlib.Omega.{arith}
 use lib.Dec.{eqb}
-use borrow.Author.Tests.{eqb-true, eqb-false}
+use borrow.Author.Tests.{eqb-false}
 use Rattle.prices.specs.declared.Prices.{Prices}
 use Rattle.prices.specs.declared.Market.{Market}
 use Rattle.prices.specs.Side.{away, meek, reaches}
@@ -18,7 +18,7 @@ use Rattle.kinds.proofs.KindLaws.{rigid-takes, sliding-heavy}
 use Rattle.prices.specs.Aims.{minded, upTo, shortOf, aimWorking, aims}
 use Rattle.prices.specs.Test.{holds}
 use Rattle.prices.specs.Post.{test20, test21, test22, test23}
-use Rattle.prices.proofs.FrameLaws.{seen, seen-high, seen-meek, meek-either, reaches-false, reaches-not}
+use Rattle.prices.proofs.FrameLaws.{seen, seen-high, seen-meek, meek-either, reaches-not}
 use Rattle.prices.proofs.StepLaws.{Legal, LegalIfAny, within-last}
 use Rattle.prices.proofs.AimLaws.{unbound, faced, Aimed, aimed}
 use Rattle.prices.proofs.RestLaws.{Slides, arrives}
@@ -35,7 +35,7 @@ use Rattle.book.specs.Entries.{shownAs, display, displayed, against, lastNumber
 use Rattle.book.specs.Look.{eligible, contra, bestHidden}
 use Rattle.soundness_theory.proofs.Facts.{PricedAs, EntryFacts, Clear, Sound}
 use Rattle.soundness_theory.proofs.FrontLaws.{if-any-contra}
-use Rattle.soundness_theory.proofs.KeepLaws.{here-facts, short-clear}
+use Rattle.soundness_theory.proofs.KeepLaws.{short-clear}
 use Rattle.telling.specs.Tell.{rested}
 use Rattle.soundness_theory.proofs.MarketFacts.{MarketFacts}
 use Rattle.telling.proofs.PackLaws.{Packs}

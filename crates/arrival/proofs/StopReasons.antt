@@ -7,7 +7,7 @@ use mathlib.Core.Bool.{Bool, true, false, cond, not, _&&_, _||_}
 use mathlib.Core.List.{List, [], _∷_, _++_}
 use native.Mathlib.Omega.{arith}
 use lib.Dec.{eqb}
-use borrow.Author.Tests.{eqb-false, ne-eqb, not-true}
+use borrow.Author.Tests.{ne-eqb, not-true}
 use Rattle.prices.specs.declared.Market.{Market}
 use Rattle.prices.specs.Side.{reaches, away, Short}
 use Rattle.prices.specs.Test.{Test, holds, onlyFor, answers, reasonOf}

@@ -2,7 +2,7 @@
 -- found, of a rest that is stopped before the book that its trades left.
 -- Assumes nothing.
 use Prim.Native.Nat.{ℕ, zero, suc, _≤_}
-use mathlib.Core.Path.{_≡_, refl, sym, subst, _∙_}
+use mathlib.Core.Path.{_≡_, sym, subst, _∙_}
 use mathlib.Core.Bool.{Bool, true, false, cond, _&&_}
 use mathlib.Core.List.{List}
 use native.Mathlib.Omega.{arith}
@@ -14,7 +14,7 @@ use Rattle.book.specs.Entries.{quote}
 use Rattle.terms.specs.declared.Terms.{Terms}
 use Rattle.terms.specs.Terms.{marketOf}
 use Rattle.arrival.specs.Take.{took}
-use Rattle.arrival.specs.Post.{hiddenFor, stopsIn, stopFor}
+use Rattle.arrival.specs.Post.{stopsIn, stopFor}
 use Rattle.arrival.specs.Arrive.{noneTraded, barsIn, protectionFor, stopsAtOnce, orElse, rejection, bookLeft, testsPut}
 use Rattle.arrival.specs.Asks.{Arriving}
 use Rattle.arrival.proofs.ReasonLaws.{or-else-first}

@@ -90,16 +90,28 @@ stopsAtOnce t e l = cond (quote e && noneTraded (took (marketOf t) e l .records)
 
 -- ---- "Price protection comes first, for quotes only" ----
 
--- before the NBO or NBB that stands against it
-abbrev pub barsBefore : Terms → Entry → ℕ → List Test
-barsBefore t e best = onlyFor (quote e) (bars (guardOf t) (e .sell) best (e .limit))
+-- against the NBO or NBB
+abbrev pub barsAgainst : Terms → Entry → ℕ → List Test
+barsAgainst t e best = onlyFor (quote e) (bars (guardOf t) (e .sell) best (e .limit))
 
 -- which is that of the book
 abbrev pub barsIn : Terms → Entry → List Entry → List Test
-barsIn t e l = barsBefore t e (national (e .sell) (away (marketOf t) (e .sell)) l)
+barsIn t e l = barsAgainst t e (national (e .sell) (away (marketOf t) (e .sell)) l)
 
 unfoldable pub protectionFor : Terms → Entry → List Entry → ℕ
 protectionFor t e l = reasonOf (e .sell) (barsIn t e l)
+
+-- ---- THE TESTS THAT ARE PUT TO AN ENTRY ON ITS ARRIVAL, in document 01's order: 25, 26, 24, 20, 21, 23, 22 ----
+
+-- price protection against the NBO or NBB, the others in the book in which it would post
+abbrev pub testsAgainst : Terms → Entry → ℕ → List Entry → List Test
+testsAgainst t e best posting = barsAgainst t e best ++ stopsIn t e posting
+
+-- price protection in the book that the message found
+abbrev pub testsPut : Terms → Entry → List Entry → List Entry → List Test
+testsPut t e found posting = testsAgainst t e (national (e .sell) (away (marketOf t) (e .sell)) found) posting
+
+-- ---- which of the two it is ----
 
 -- why an arrival is rejected; 0 where it is not
 abbrev pub orElse : ℕ → ℕ → ℕ
@@ -120,13 +132,3 @@ arrived t e l = arrivedAs t e l (rejection t e l)
 -- "25 and 26 .. block that maker until kind 12"
 unfoldable pub blocks : Terms → Entry → List Entry → Bool
 blocks t e l = bothQuotes (rejection t e l)
-
--- ---- THE TESTS THAT ARE PUT TO AN ENTRY ON ITS ARRIVAL, in document 01's order: 25, 26, 24, 20, 21, 23, 22 ----
-
--- price protection before the NBO or NBB, the others before the book in which it would post
-abbrev pub testsBefore : Terms → Entry → ℕ → List Entry → List Test
-testsBefore t e best posting = barsBefore t e best ++ stopsIn t e posting
-
--- price protection before the book that the message found
-abbrev pub testsPut : Terms → Entry → List Entry → List Entry → List Test
-testsPut t e found posting = barsIn t e found ++ stopsIn t e posting

@@ -133,7 +133,7 @@ pub record Finishes (t : Terms) (e : Entry) (c : ℕ) (b : Book) (left : ℕ) (r
   pub space : b .count < 64
   pub roomy : Roomy room n (finished t e left (stopFor t e (entriesOf b)) (entriesOf b) .records)
 
--- what its tests are measured by: an NBO or NBB that is none or legal, and a book in which it would post
+-- what its tests are measured by: an NBO or NBB of at most 100,000, and a book in which it would post
 pub record Measures (t : Terms) (e : Entry) (f : Facing) (b : Book) : Type 0 where
   pub posts : Posts t e b (f .contra)
   pub cents : Cents (f .national) (e .limit)

@@ -40,7 +40,7 @@ asPosted e left p = withQuantity left (withPrices (p .working) (pricingOf (e .ki
 abbrev pub hiddenFor : Entry → List Entry → ℕ
 hiddenFor e l = cond (light (e .kind)) (bestHidden (e .sell) l) 0
 
--- the tests put to what is left, before the book in which it would post
+-- the tests put to what is left, in the book in which it would post
 abbrev pub stopsIn : Terms → Entry → List Entry → List Test
 stopsIn t e l =
     stops (t .m) (t .k) (e .kind) (e .sell) (e .limit) (away (marketOf t) (e .sell)) (hiddenFor e l) (pricesOf t e l .display)

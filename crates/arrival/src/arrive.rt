@@ -36,7 +36,7 @@ ghost use Rattle.telling.specs.Stage.{Staged};
 ghost use Rattle.terms.specs.Terms.{marketOf};
 ghost use Rattle.arrival.specs.Take.{took};
 ghost use Rattle.arrival.specs.Post.{stopFor};
-ghost use Rattle.arrival.specs.Arrive.{barsBefore, stopsAtOnce, rejection, rejectedBy, replaced, posted, cancelledRest, finished, entered, arrived};
+ghost use Rattle.arrival.specs.Arrive.{barsAgainst, stopsAtOnce, rejection, rejectedBy, replaced, posted, cancelledRest, finished, entered, arrived};
 ghost use Rattle.book.specs.Entries.{withQuantity};
 ghost use Rattle.arrival.specs.Cancel.{Asks};
 ghost use Rattle.arrival.specs.Asks.{trades, Enters, EntersTrading, Arrives, Goes, Finishes, Rests, TakesOn, TookAs, LeftIn};
@@ -47,7 +47,7 @@ const ARRIVAL: usize = 67 * 14;
 // Price protection before this NBO or NBB, for quotes only: the reason to reject, or 0.
 fn protection_for(t: Terms, e: Entry, national: u32) -> u32
     requires { ⌜ Cents national (e .limit) ⌝ }
-    ensures { λ r. ⌜ r ≡ reasonOf (e .sell) (barsBefore t e national) ⌝ }
+    ensures { λ r. ⌜ r ≡ reasonOf (e .sell) (barsAgainst t e national) ⌝ }
 {
     if !is_quote(e) {
         return 0;

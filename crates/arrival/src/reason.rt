@@ -14,13 +14,13 @@ use terms::market_of;
 ghost use mathlib.Core.Path.{_≡_};
 ghost use Rattle.prices.specs.Test.{figuresOf};
 ghost use Rattle.book.specs.Shape.{entriesOf};
-ghost use Rattle.arrival.specs.Arrive.{testsBefore};
+ghost use Rattle.arrival.specs.Arrive.{testsAgainst};
 ghost use Rattle.arrival.specs.Asks.{Measures};
 
 // The two figures that a rule's test of an arriving entry compares, where it would post in this book; two zeros for a rule that is no test.
 pub fn figures_for(rule: u32, b: Book, t: Terms, e: Entry, f: Facing) -> Figures
     requires { ⌜ Measures t e f b ⌝ }
-    ensures { λ r. ⌜ r ≡ figuresOf rule (testsBefore t e (f .national) (entriesOf b)) ⌝ }
+    ensures { λ r. ⌜ r ≡ figuresOf rule (testsAgainst t e (f .national) (entriesOf b)) ⌝ }
 {
     if 24 <= rule {
         return bar_figures(rule, guard_of(t), e.sell, f.national, e.limit);

@@ -21,7 +21,7 @@ use Rattle.book.specs.declared.Front.{Front}
 use Rattle.book.specs.declared.Least.{Least}
 use Rattle.book.specs.Entries.{display, displayed, against, ownEntry, quoteOf}
 use Rattle.book.specs.Look.{noKey, rankOf, rankHeld, lowerKey, cost, priority, eligible, bestContra, entryOf, quoteIn}
-use Rattle.book.specs.Look.{lowest, working, hidden, facing, nearest, contra, bestHidden, frontOf, contraIn, frontTurn, national}
+use Rattle.book.specs.Look.{lowest, working, hiddenPrice, facing, nearest, contra, bestHidden, frontOf, contraIn, frontTurn, national}
 use Rattle.book.proofs.OfferLaws.{Best, Alone, best-alone, best-nearer, best-same}
 
 -- THE BEST CONTRA ENTRY has the best price of all that are eligible; of those at its price none is displayed unless it is; and of those that
@@ -143,11 +143,11 @@ pub contra-price-tells : (s : Bool) (l : List Entry) → Best s (Offered working
 contra-price-tells s l = nearest-offered working s l
 
 -- THE BEST UNDISPLAYED PRICE of the entries that face side s; a turn of the scan for it
-pub hidden-price-tells : (s : Bool) (l : List Entry) → Best s (Offered hidden s l) (bestHidden s l)
-hidden-price-tells s l = nearest-offered hidden s l
+pub hidden-price-tells : (s : Bool) (l : List Entry) → Best s (Offered hiddenPrice s l) (bestHidden s l)
+hidden-price-tells s l = nearest-offered hiddenPrice s l
 
 pub hidden-turn-is : (s : Bool) (q : ℕ) (e : Entry) (b : Bool) → (against s e && not (displayed e)) ≡ b
-    → cond b (nearer s q (e .working)) q ≡ facing hidden s q e
+    → cond b (nearer s q (e .working)) q ≡ facing hiddenPrice s q e
 unfolding nearer
 hidden-turn-is s q e b h = by (against s e) (displayed e) b h
   where

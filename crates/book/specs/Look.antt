@@ -88,11 +88,11 @@ abbrev pub national : Bool → ℕ → List Entry → ℕ
 national s a l = nearest display s a l
 
 -- 21: "an undisplayed sell": the price at which it works, none of one that is displayed; and the best such price
-abbrev pub hidden : Entry → ℕ
-hidden e = cond (displayed e) 0 (e .working)
+abbrev pub hiddenPrice : Entry → ℕ
+hiddenPrice e = cond (displayed e) 0 (e .working)
 
 abbrev pub bestHidden : Bool → List Entry → ℕ
-bestHidden s l = nearest hidden s 0 l
+bestHidden s l = nearest hiddenPrice s 0 l
 
 -- ---- whom a message names ----
 

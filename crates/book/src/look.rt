@@ -13,7 +13,7 @@ ghost use mathlib.Core.Bool.{true, cond};
 ghost use Prim.Native.Nat.{_<_};
 ghost use Rattle.book.specs.Shape.{entriesOf, WellFormed};
 ghost use Rattle.book.specs.Look.{noKey, cost, priority, eligible, bestContra, rankOf, lowerKey, noneMet, rankHeld};
-ghost use Rattle.book.specs.Look.{Sooner, working, facing, contraIn, frontOf, frontTurn, hidden, bestHidden};
+ghost use Rattle.book.specs.Look.{Sooner, working, facing, contraIn, frontOf, frontTurn, hiddenPrice, bestHidden};
 ghost use Rattle.book.specs.Entries.{displayed};
 ghost use Rattle.lists.specs.Choose.{keyed};
 
@@ -161,7 +161,7 @@ pub fn contra_of(front: Front, sell: bool) -> u32
 
 // A turn of a scan for the best price at which undisplayed interest works against a side.
 fn hidden_turn(sell: bool, q: u32, e: Entry) -> u32
-    ensures { λ r. ⌜ r ≡ facing hidden sell q e ⌝ }
+    ensures { λ r. ⌜ r ≡ facing hiddenPrice sell q e ⌝ }
 {
     if is_against(sell, e) & !is_displayed(e) {
         return nearer_of(sell, q, e.working);

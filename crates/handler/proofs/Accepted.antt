@@ -42,11 +42,12 @@ use Rattle.series.specs.Series.{soundSeries}
 use Rattle.series.specs.SoundSeries.{SoundPhase}
 use Rattle.series.proofs.TermsLaws.{phase-open}
 use Rattle.series.proofs.SeriesFacts.{terms-market, facts-series}
+use Rattle.handler.specs.Acts.{Accepted}
 use Rattle.handler.specs.declared.Ask.{Ask}
 use Rattle.handler.specs.Asked.{askOf}
 use Rattle.kinds.specs.Kinds.{enters, cancelsEntry, cancelsQuote, setsPhase}
 use Rattle.handler.specs.Accept.{comer, ownPart, termsAfter, blockedAfter, settledIf, done, seriesAfter}
-use Rattle.handler.proofs.Passed.{Accepted, accepts, facts, enters-open, accepted-arriving, terms-legal, numbers-few}
+use Rattle.handler.proofs.Passed.{accepts, facts, enters-open, accepted-arriving, terms-legal, numbers-few}
 use Rattle.handler.proofs.Ways.{Accepting, accepting, handled-accepted}
 use Rattle.handler.specs.Handle.{handled}
 use Rattle.kinds.proofs.KindLaws.{no-such, stays-out}

@@ -41,12 +41,13 @@ use Rattle.arrival.specs.Post.{pricesOf, asPosted}
 use Rattle.series.specs.declared.Series.{Series}
 use Rattle.series.specs.Series.{soundSeries}
 use Rattle.series.proofs.SeriesFacts.{SeriesFacts, series-facts}
+use Rattle.handler.specs.Acts.{Accepted}
 use Rattle.handler.specs.declared.Ask.{Ask}
 use Rattle.handler.specs.Asked.{askOf}
 use Rattle.handler.specs.Accept.{comer, termsAfter, done}
 use Rattle.handler.specs.Handle.{Handled, handled}
 use Rattle.handler.proofs.Ways.{Accepting, accepting}
-use Rattle.handler.proofs.Passed.{Accepted, accepted-arriving, accepted-as, answer-as}
+use Rattle.handler.proofs.Passed.{accepted-arriving, accepted-as, answer-as}
 use Rattle.handler.proofs.Accepted.{own-sound, accepted-sound}
 use Rattle.handler.proofs.Demands.{ownOf, settlingOf, EachReport, reports-hold, demand-3}
 use Rattle.handler.proofs.OwnPart.{own-rests, own-tells}

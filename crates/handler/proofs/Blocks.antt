@@ -21,6 +21,7 @@ use Rattle.arrival.proofs.ReasonLaws.{rejection-among}
 use Rattle.arrival.proofs.ForTheClass.{one-side, two-sides}
 use Rattle.series.specs.declared.Series.{Series}
 use Rattle.series.specs.Series.{soundSeries}
+use Rattle.handler.specs.Acts.{Accepted}
 use Rattle.handler.specs.declared.Ask.{Ask}
 use Rattle.handler.specs.Asked.{askOf}
 use Rattle.kinds.specs.Kinds.{quotes, makers, enters, enables}
@@ -29,7 +30,7 @@ use Rattle.handler.specs.Refuse.{badParty, badPrice, badQuantity, notOpe
 use Rattle.handler.specs.Accept.{comer, blockedAfter, seriesAfter}
 use Rattle.handler.specs.Handle.{Handled, refused, handled}
 use Rattle.handler.proofs.Ways.{handled-refused}
-use Rattle.handler.proofs.Passed.{Accepted, of-accepted, tests, maker-within}
+use Rattle.handler.proofs.Passed.{of-accepted, tests, maker-within}
 use Rattle.handler.proofs.HandleLaws.{enable-maker}
 
 -- a maker is blocked in a series

@@ -34,12 +34,13 @@ use Rattle.lists.proofs.Bools.{cond-either}
 use Rattle.terms.specs.Terms.{marketOf}
 use Rattle.series.specs.declared.Series.{Series}
 use Rattle.series.specs.Series.{soundSeries}
+use Rattle.handler.specs.Acts.{Accepted}
 use Rattle.handler.specs.declared.Ask.{Ask}
 use Rattle.handler.specs.Asked.{askOf}
 use Rattle.handler.specs.Accept.{ownPart, termsAfter, settledIf, done, seriesAfter}
 use Rattle.handler.specs.Handle.{Handled, refused, accepted, handled, handledAt}
 use Rattle.handler.proofs.Ways.{Accepting, accepting, handled-nothing, handled-accepted}
-use Rattle.handler.proofs.Passed.{Accepted, accepts, of-accepted}
+use Rattle.handler.proofs.Passed.{accepts, of-accepted}
 use Rattle.handler.proofs.Accepted.{own-sound, done-part}
 
 -- ---- the reports of a message ----

@@ -36,10 +36,11 @@ use Rattle.arrival.proofs.ArriveTells.{arrived-says}
 use Rattle.arrival.proofs.Within.{arrival-within-away}
 use Rattle.arrival.proofs.EnterLaws.{if-any-high, given-display}
 use Rattle.series.specs.declared.Series.{Series}
+use Rattle.handler.specs.Acts.{Accepted}
 use Rattle.handler.specs.declared.Ask.{Ask}
 use Rattle.handler.specs.Accept.{comer, ownPart, termsAfter, settledIf, done}
 use Rattle.series.proofs.TermsLaws.{step-mpv}
-use Rattle.handler.proofs.Passed.{Accepted, facts, terms-legal}
+use Rattle.handler.proofs.Passed.{facts, terms-legal}
 use Rattle.handler.proofs.Accepted.{own-sound, done-part}
 use Rattle.handler.proofs.OwnPart.{own-rests, own-tells}
 

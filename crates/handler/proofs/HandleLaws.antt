@@ -33,8 +33,8 @@ use Rattle.kinds.proofs.KindLaws.{quote-cancel-makers, quotes-makers, enable-ma
 use Rattle.kinds.proofs.KindLaws.{quotes-enter, enters-carries, enters-high, entry-cancel-carries}
 use Rattle.handler.specs.Refuse.{badParty, isFull, isNowhere, goneAt}
 use Rattle.handler.specs.Accept.{comer, termsAfter}
-use Rattle.handler.specs.Acts.{Acts, facingBy, BlocksFor}
-use Rattle.handler.proofs.Passed.{Accepted, facts, tests, accepted-arriving, any-party, maker-within}
+use Rattle.handler.specs.Acts.{Accepted, Acts, facingBy, BlocksFor}
+use Rattle.handler.proofs.Passed.{facts, tests, accepted-arriving, any-party, maker-within}
 
 -- ---- the party ----
 

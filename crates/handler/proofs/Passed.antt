@@ -38,6 +38,7 @@ use Rattle.series.specs.Series.{soundSeries}
 use Rattle.series.specs.SoundSeries.{NoneOrLegal, LegalTerms}
 use Rattle.series.proofs.TermsLaws.{if-any-price}
 use Rattle.series.proofs.SeriesFacts.{SeriesFacts, series-facts}
+use Rattle.handler.specs.Acts.{Accepted}
 use Rattle.handler.specs.declared.Ask.{Ask}
 use Rattle.handler.specs.Asked.{askOf}
 use Rattle.kinds.specs.Kinds.{enters, quotes, makers, carries, setsAway, setsPhase, setsUnderlying}
@@ -97,11 +98,6 @@ ask-kind (Phase phase) = omega arith
 ask-kind (Enable party) = omega arith
 
 -- A MESSAGE IS ACCEPTED: the series is sound, and no test of a refusal holds
-pub record Accepted (s : Series) (a : Ask) : Type 0 where
-  pub sound : soundSeries s ≡ true
-  pub kind : 1 ≤ a .kind
-  pub passes : refusalOf s a ≡ 0
-
 pub accepts : (s : Series) (e : Event) → soundSeries s ≡ true → refusalOf s (askOf e) ≡ 0 → Accepted s (askOf e)
 accepts s e h k = record { sound = h; kind = ask-kind e .0; passes = k }
 

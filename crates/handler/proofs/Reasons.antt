@@ -18,11 +18,12 @@ use Rattle.book.specs.declared.Entry.{Entry}
 use Rattle.book.specs.Shape.{entriesOf}
 use Rattle.arrival.proofs.ReasonsTold.{TellsWhy, reasons-true}
 use Rattle.series.specs.declared.Series.{Series}
+use Rattle.handler.specs.Acts.{Accepted}
 use Rattle.handler.specs.declared.Ask.{Ask}
 use Rattle.handler.specs.Asked.{askOf}
 use Rattle.handler.specs.Accept.{comer, done}
 use Rattle.handler.specs.Handle.{handled}
-use Rattle.handler.proofs.Passed.{Accepted, accepted-as, accepted-arriving}
+use Rattle.handler.proofs.Passed.{accepted-as, accepted-arriving}
 use Rattle.handler.proofs.Stages.{own-enters}
 use Rattle.handler.proofs.Demands.{ownOf, settlingOf, settling-says, EachReport, reports-hold}
 

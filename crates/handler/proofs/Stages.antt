@@ -23,12 +23,12 @@ use Rattle.arrival.specs.Cancel.{cancelEntry, cancelQuote, sweep}
 use Rattle.arrival.specs.Arrive.{reported, arrived}
 use Rattle.telling.proofs.StageLaws.{staged-list, staged-then, staged-room}
 use Rattle.series.specs.declared.Series.{Series}
+use Rattle.handler.specs.Acts.{Accepted}
 use Rattle.handler.specs.declared.Ask.{Ask}
 use Rattle.kinds.specs.Kinds.{enters, cancelsEntry, cancelsQuote, setsPhase}
 use Rattle.kinds.proofs.KindLaws.{stays-out}
 use Rattle.handler.specs.Accept.{comer, ownPart, termsAfter, blockedAfter, settledIf, done}
 use Rattle.handler.specs.Handle.{Handled, accepted}
-use Rattle.handler.proofs.Passed.{Accepted}
 use Rattle.handler.proofs.Accepted.{own-sound, accepted-room}
 
 -- ---- which stage the message's own part is ----

@@ -25,13 +25,13 @@ use Rattle.terms.specs.Terms.{marketOf}
 use Rattle.arrival.proofs.ForTheClass as arriving
 use Rattle.series.specs.declared.Series.{Series}
 use Rattle.handler.specs.Asked.{askOf}
-use Rattle.handler.specs.Accept.{termsAfter, done}
+use Rattle.handler.specs.Accept.{comerOf, termsAfter, done}
 use Rattle.handler.specs.Handle.{Handled, accepted, handled}
 use Rattle.handler.proofs.Passed.{of-accepted, accepted-arriving}
 use Rattle.handler.proofs.Stages.{own-enters}
 use Rattle.handler.proofs.Demands.{reportsIn, OfReport, EachReport, each-told}
 use Rattle.handler.proofs.ForTheClass as class
-use Rattle.handler.proofs.TaughtWords.{comerOf, TakesSame, TakesBoth, TakesOpposite, LeavesQuotes}
+use Rattle.handler.proofs.TaughtWords.{TakesSame, TakesBoth, TakesOpposite, LeavesQuotes}
 use Rattle.handler.proofs.TaughtLaws.{RejectsAs, CancelsAs, done-says, rejects-as, cancels-as}
 use Rattle.handler.proofs.TaughtLaws.{takes-same, takes-both, takes-opposite, leaves-quotes}
 

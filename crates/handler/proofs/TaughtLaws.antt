@@ -43,17 +43,18 @@ use Rattle.arrival.proofs.Stays.{took-stays, order-stays}
 use Rattle.arrival.proofs.ArriveTells.{RestStopped, arrived-says-why}
 use Rattle.arrival.proofs.ForTheClass as arriving
 use Rattle.series.specs.declared.Series.{Series}
+use Rattle.handler.specs.Acts.{Accepted}
 use Rattle.handler.specs.declared.Ask.{Ask}
-use Rattle.handler.specs.Accept.{termsAfter, done}
+use Rattle.handler.specs.Accept.{comerOf, termsAfter, done}
 use Rattle.handler.specs.Handle.{Handled, accepted}
-use Rattle.handler.proofs.Passed.{Accepted, accepted-arriving}
+use Rattle.handler.proofs.Passed.{accepted-arriving}
 use Rattle.handler.proofs.Accepted.{own-sound}
 use Rattle.handler.proofs.OwnPart.{own-tells}
 use Rattle.handler.proofs.Stages.{own-enters}
 use Rattle.handler.proofs.Blocks.{rejectionOf, same-is, blocking}
 use Rattle.handler.proofs.Demands.{settling-says, ownOf, settlingOf, reportsIn, EachReport, accepted-told, each-told, told-at}
 use Rattle.handler.proofs.ForTheClass as class
-use Rattle.handler.proofs.TaughtWords.{comerOf, TradeIn, Stays, TakesSame, TakesBoth, TakesOpposite, SparesQuotes, LeavesQuotes}
+use Rattle.handler.proofs.TaughtWords.{TradeIn, Stays, TakesSame, TakesBoth, TakesOpposite, SparesQuotes, LeavesQuotes}
 
 -- ---- what the reports say of a rejection and of a rest that is cancelled ----
 

@@ -26,14 +26,10 @@ use Rattle.arrival.proofs.CutLaws.{OtherThan}
 use Rattle.arrival.proofs.Leaves.{cancels}
 use Rattle.series.specs.declared.Series.{Series}
 use Rattle.handler.specs.declared.Ask.{Ask}
-use Rattle.handler.specs.Accept.{comer}
+use Rattle.handler.specs.Accept.{comerOf}
 use Rattle.handler.specs.Handle.{Handled}
 use Rattle.handler.proofs.Blocks.{isBlockedIn}
 use Rattle.handler.proofs.Demands.{settlingOf, reportsIn, EachReport}
-
--- the quote or order that a message brings
-abbrev pub comerOf : Series → Ask → Entry
-comerOf s a = comer (s .terms .given) a
 
 -- ---- what became of an entry that rested ----
 

@@ -33,6 +33,10 @@ comer given a = record {
   pricing = Fixed;
 }
 
+-- of the series that it comes to
+abbrev pub comerOf : Series → Ask → Entry
+comerOf s a = comer (s .terms .given) a
+
 -- THE MESSAGE'S OWN PART. Kinds 9 to 12 are noted; a phase then cancels: "Phase: noted, then 31s by entry." "Underlying and enable of themselves move no entry;
 -- settling follows them too."
 unfoldable pub ownPart : Terms → Ask → List Entry → Ran (List Entry) Report

@@ -33,6 +33,12 @@ pub record Whole (s : Series) (check : Check) : Type 0 where
   pub blocks : length (s .blocked) ≡ 16
   pub seen : Summary (entriesOf (s .book)) check
 
+-- what an event asks is accepted: the series is sound, and no test refuses it
+pub record Accepted (s : Series) (a : Ask) : Type 0 where
+  pub sound : soundSeries s ≡ true
+  pub kind : 1 ≤ a .kind
+  pub passes : refusalOf s a ≡ 0
+
 -- and an event that no test refuses
 pub record Acts (s : Series) (check : Check) (a : Ask) : Type 0 where
   pub whole : Whole s check

@@ -27,7 +27,7 @@ decides-25 g s bid = (told, tells)
   where
     told : holds s (test25 g s bid) ≡ true → AboveUnderlying g s bid
     told a =
-        let p = and-left (test25 g s bid .put) _ a in
+        let p = and-left (test25 g s bid .posed) _ a in
         let b = and-right (not s) _ p in
         let c = and-right (not (g .put)) _ b in
         record {
@@ -35,7 +35,7 @@ decides-25 g s bid = (told, tells)
           call = not-true (g .put) (and-left (not (g .put)) _ b);
           bound = not-true (g .exempt) (and-left (not (g .exempt)) _ c);
           known = omega (arith, eqb-false (g .underlying) 0 (not-true (eqb (g .underlying) 0) (and-right (not (g .exempt)) _ c)));
-          above = leb-true (g .underlying) bid (and-right (test25 g s bid .put) _ a);
+          above = leb-true (g .underlying) bid (and-right (test25 g s bid .posed) _ a);
         }
 
     tells : AboveUnderlying g s bid → holds s (test25 g s bid) ≡ true
@@ -55,13 +55,13 @@ decides-26 g s bid = (told, λ a. rw (a .buys, a .is-put, a .bound, le-leb (g .s
   where
     told : holds s (test26 g s bid) ≡ true → AboveStrike g s bid
     told a =
-        let p = and-left (test26 g s bid .put) _ a in
+        let p = and-left (test26 g s bid .posed) _ a in
         let b = and-right (not s) _ p in
         record {
           buys = not-true s (and-left (not s) _ p);
           is-put = and-left (g .put) _ b;
           bound = not-true (g .exempt) (and-right (g .put) _ b);
-          above = leb-true (g .strike) bid (and-right (test26 g s bid .put) _ a);
+          above = leb-true (g .strike) bid (and-right (test26 g s bid .posed) _ a);
         }
 
 -- ---- 24 ----

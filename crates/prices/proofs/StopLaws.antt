@@ -1,5 +1,5 @@
 -- WHAT MAY NOT REST, IN PLAIN INEQUALITIES, both ways: a rest is told 20, 21, 23 or 22 exactly when that test holds and none before it does. What 21 says is
--- the book's to say (crate arrival, StopReasons).
+-- the book's to say (crate arrival, HiddenLaws).
 -- Assumes nothing.
 use Prim.Native.Nat.{ℕ, _+_, _-_, _*_, _≤_, _<_}
 use mathlib.Core.Path.{_≡_, refl}

@@ -2,7 +2,7 @@
 -- Assumes nothing.
 use Prim.Native.Nat.{ℕ, _≤_, _<_}
 use mathlib.Core.Path.{_≡_, refl, sym, ap, subst, _∙_}
-use mathlib.Core.Bool.{Bool, true, false, cond, _&&_}
+use mathlib.Core.Bool.{Bool, true, false, cond}
 use mathlib.Core.List.{List, [], _∷_, _++_}
 use native.Mathlib.Omega.{arith}
 use lib.Dec.{eqb, leb}
@@ -12,7 +12,7 @@ use Rattle.lists.proofs.Bools.{clash, and-left, and-right, and-both}
 use Rattle.lists.proofs.FirstLaws.{Decides}
 use Rattle.prices.specs.declared.Figures.{Figures}
 use Rattle.prices.specs.Side.{reaches}
-use Rattle.prices.specs.Test.{Comparison, atLeast, above, reaching, short, compared, Test, holds, onlyFor, answers, reasonOf, figuresOf}
+use Rattle.prices.specs.Test.{Comparison, atLeast, above, reaching, short, compared, Test, holds, onlyFor, reasonOf, figuresOf}
 use Rattle.prices.proofs.StopLaws.{decides-both}
 
 -- ---- the figures of a rule ----
@@ -69,7 +69,7 @@ compared-decides short true f = (
 
 -- it fails, if it was put at all
 abbrev pub Fails : Bool → Test → Type 0
-Fails s x = x .put ≡ true → Compares (x .when) s (x .figures) → ⊥
+Fails s x = x .posed ≡ true → Compares (x .when) s (x .figures) → ⊥
 
 -- THE FIRST TEST OF A TABLE THAT HOLDS: it has number n, it was put, it compared the figures f, its comparison holds of them, and every test before it that was
 -- put fails of its own
@@ -79,7 +79,7 @@ pub record FirstTest (s : Bool) (xs : List Test) (n : ℕ) (f : Figures) : Type 
   pub later : List Test
   pub table : xs ≡ earlier ++ (test ∷ later)
   pub rule : test .rule ≡ n
-  pub put : test .put ≡ true
+  pub posed : test .posed ≡ true
   pub figures : test .figures ≡ f
   pub holds : Compares (test .when) s f
   pub none-earlier : All (Fails s) earlier
@@ -108,9 +108,9 @@ reason-first s (x ∷ xs) a n some h = by (holds s x) refl h (λ k. reason-first
           later = xs;
           table = refl;
           rule = k;
-          put = and-left (x .put) _ q;
+          posed = and-left (x .posed) _ q;
           figures = same;
-          holds = subst (Compares (x .when) s) same (compared-decides (x .when) s (x .figures) .0 (and-right (x .put) _ q));
+          holds = subst (Compares (x .when) s) same (compared-decides (x .when) s (x .figures) .0 (and-right (x .posed) _ q));
           none-earlier = tt;
         }
     by false q k more =
@@ -124,11 +124,11 @@ reason-first s (x ∷ xs) a n some h = by (holds s x) refl h (λ k. reason-first
           later = r .later;
           table = ap (λ (ys : List Test). x ∷ ys) (r .table);
           rule = r .rule;
-          put = r .put;
+          posed = r .posed;
           figures = r .figures ∙ same;
           holds = subst (Compares (r .test .when) s) same (r .holds);
           none-earlier = (
-            λ p c. clash (and-both (x .put) _ p (compared-decides (x .when) s (x .figures) .1 c)) q,
+            λ p c. clash (and-both (x .posed) _ p (compared-decides (x .when) s (x .figures) .1 c)) q,
             r .none-earlier,
           );
         }

@@ -18,7 +18,7 @@ pub record Cents (b l : ℕ) : Type 0 where
 abbrev pub test25 : Guard → Bool → ℕ → Test
 test25 g s bid = record {
   rule = 25;
-  put = not s && (not (g .put) && (not (g .exempt) && not (eqb (g .underlying) 0)));
+  posed = not s && (not (g .put) && (not (g .exempt) && not (eqb (g .underlying) 0)));
   figures = record { first = bid; second = g .underlying };
   when = atLeast;
 }
@@ -26,7 +26,7 @@ test25 g s bid = record {
 -- "26: put, not exempt, bid at or above strike."
 abbrev pub test26 : Guard → Bool → ℕ → Test
 test26 g s bid =
-    record { rule = 26; put = not s && (g .put && not (g .exempt)); figures = record { first = bid; second = g .strike }; when = atLeast }
+    record { rule = 26; posed = not s && (g .put && not (g .exempt)); figures = record { first = bid; second = g .strike }; when = atLeast }
 
 -- "24: bid, NBO at most 100: bid at least NBO+100. NBO above 100: twice (bid-NBO) at least NBO.
 -- Offer, NBB above 100: twice (NBB-offer) at least NBB; NBB at most 100, no limit. No NBO/NBB, no test."
@@ -40,7 +40,7 @@ limited24 false nbo = not (eqb nbo 0)
 limited24 true nbb = ltb 100 nbb
 
 abbrev pub test24 : Bool → ℕ → ℕ → Test
-test24 s best limit = record { rule = 24; put = limited24 s best; figures = figures24 s best limit; when = atLeast }
+test24 s best limit = record { rule = 24; posed = limited24 s best; figures = figures24 s best limit; when = atLeast }
 
 -- the tests put to a quote on side s with this limit, where `best` is NBO for a bid and NBB for an offer
 abbrev pub bars : Guard → Bool → ℕ → ℕ → List Test

@@ -1,5 +1,5 @@
--- A TEST OF ARRIVAL, as a row of a table: its number, whether it is put to the entry at all, the two figures that it compares, and when it holds of them. The
--- first figure is the entry's own, the second what it is held against.
+-- A TEST OF ARRIVAL, as a row of a table: its number, whether it is put to the entry at all (posed), the two figures that it compares, and when it holds of
+-- them. The first figure is the entry's own, the second what it is held against.
 -- Assumes nothing.
 use Prim.Native.Nat.{ℕ}
 use mathlib.Core.Bool.{Bool, cond, not, _&&_}
@@ -27,18 +27,18 @@ compared short s f = not (reaches s (f .first) (f .second))
 
 pub record Test : Type 0 where
   pub rule : ℕ
-  pub put : Bool
+  pub posed : Bool
   pub figures : Figures
   pub when : Comparison
 
 -- it is put to an entry on side s, and holds
 abbrev pub holds : Bool → Test → Bool
-holds s x = x .put && compared (x .when) s (x .figures)
+holds s x = x .posed && compared (x .when) s (x .figures)
 
 -- tests that are put only where q is so
 abbrev pub onlyFor : Bool → List Test → List Test
 onlyFor q [] = []
-onlyFor q (x ∷ xs) = record { rule = x .rule; put = q && x .put; figures = x .figures; when = x .when } ∷ onlyFor q xs
+onlyFor q (x ∷ xs) = record { rule = x .rule; posed = q && x .posed; figures = x .figures; when = x .when } ∷ onlyFor q xs
 
 -- what each answers
 abbrev pub answers : Bool → List Test → List (ℕ × Bool)

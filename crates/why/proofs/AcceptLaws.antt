@@ -19,14 +19,15 @@ use Rattle.book.specs.declared.Book.{Book}
 use Rattle.book.specs.Entries.{lastNumber}
 use Rattle.book.specs.Shape.{entriesOf}
 use Rattle.arrival.specs.declared.Facing.{Facing}
-use Rattle.arrival.specs.Arrive.{testsBefore}
+use Rattle.arrival.specs.Arrive.{testsAgainst}
 use Rattle.arrival.specs.Asks.{Arriving, Faces, Enters, LeftIn}
 use Rattle.prices.specs.Side.{away}
 use Rattle.terms.specs.Terms.{marketOf}
 use Rattle.soundness.specs.declared.Check.{Check}
 use Rattle.soundness.proofs.SummaryLaws.{faced-contra, shown-national}
 use Rattle.series.specs.Checks.{Tested}
-use Rattle.handler.specs.Acts.{facingBy}
+use Rattle.handler.specs.Acts.{Accepted, facingBy}
+use Rattle.handler.specs.Accept.{comerOf}
 use Rattle.series.specs.declared.Series.{Series}
 use Rattle.series.specs.Series.{soundSeries}
 use Rattle.handler.specs.declared.Ask.{Ask}
@@ -34,15 +35,15 @@ use Rattle.handler.specs.Asked.{askOf}
 use Rattle.handler.specs.Refuse.{refusalOf}
 use Rattle.handler.specs.Handle.{beforeReading, accepted, refused, refusedOr, heard, handledAs}
 use Rattle.handler.proofs.Ways.{none-early}
-use Rattle.handler.proofs.Passed.{Accepted, accepts, facts, tests, any-party, accepted-arriving}
-use Rattle.why.specs.Why.{Accepts, FacedIn, comerOf, foundTests, leftTests}
+use Rattle.handler.proofs.Passed.{accepts, facts, tests, any-party, accepted-arriving}
+use Rattle.why.specs.Why.{FacedIn, foundTests, leftTests}
 
 -- it unpacks to an event that the series accepts, and is answered so
 pub record Heard (s : Series) (event : Option Event) (room : List ℕ) : Type 0 where
   pub message : Event
   pub read : event ≡ some message
   pub space : roomSize ≤ length room
-  pub accepts : Accepts s (askOf message)
+  pub accepts : Accepted s (askOf message)
   pub answer : handledAs s event room ≡ accepted s (askOf message) room
 
 pub heard-of : (s : Series) (event : Option Event) (room : List ℕ) → handledAs s event room .answer .refusal ≡ 0 → Heard s event room
@@ -53,12 +54,11 @@ heard-of s event room h = by (beforeReading (length room) (soundSeries s)) refl 
         → (b : Bool) → eqb (refusalOf s (askOf e)) 0 ≡ b
         → (cond b (accepted s (askOf e) room) (refused (refusalOf s (askOf e)) s room)) .answer .refusal ≡ 0 → Heard s event room
     judge g z e r true q k =
-        let a = accepts s e (g .1) (eqb-true (refusalOf s (askOf e)) 0 q) in
         record {
           message = e;
           read = r;
           space = g .0;
-          accepts = record { sound = a .sound; kind = a .kind; passes = a .passes };
+          accepts = accepts s e (g .1) (eqb-true (refusalOf s (askOf e)) 0 q);
           answer = rw (z, r, q) refl;
         }
     judge g z e r false q k = absurd (eqb-false (refusalOf s (askOf e)) 0 q k)
@@ -85,29 +85,26 @@ faced-in s e {check} tested sound f is =
       });
     }
 
-module _ (s : Series) (a : Ask) (ok : Accepts s a) where
-  pub accepted-so : Accepted s a
-  accepted-so = record { sound = ok .sound; kind = ok .kind; passes = ok .passes }
-
+module _ (s : Series) (a : Ask) (ok : Accepted s a) where
   module _ (k : enters (a .kind) ≡ true) where
     pub comer-fits : (s .terms .given ≤ lastNumber) × ((a .party ≤ 99) × (a .kind ≤ 15))
     comer-fits =
-        (facts s a accepted-so .sound .most, (any-party a (enters-carries (a .kind) k) (tests s a accepted-so .party) .1, enters-high (a .kind) k))
+        (facts s a ok .sound .most, (any-party a (enters-carries (a .kind) k) (tests s a ok .party) .1, enters-high (a .kind) k))
 
     pub comer-enters : (e : Entry) → e ≡ comerOf s a → (f : Facing) → FacedIn s e f → Enters (s .terms) e f (s .book)
     comer-enters e q f x = record {
       well = x .well;
-      arriving = subst (λ (y : Entry). Arriving (s .terms) y (entriesOf (s .book))) (sym q) (accepted-arriving s a accepted-so k);
+      arriving = subst (λ (y : Entry). Arriving (s .terms) y (entriesOf (s .book))) (sym q) (accepted-arriving s a ok k);
       faces = x .faces;
     }
 
     -- the figures that were measured are those of the table
     pub found-figures-are : (rule : ℕ) (e : Entry) → e ≡ comerOf s a → (f : Facing) → FacedIn s e f
-        → figuresOf rule (testsBefore (s .terms) e (f .national) (entriesOf (s .book))) ≡ figuresOf rule (foundTests s a)
+        → figuresOf rule (testsAgainst (s .terms) e (f .national) (entriesOf (s .book))) ≡ figuresOf rule (foundTests s a)
     found-figures-are rule e q f x = rw (k, x .faces .national, q) refl
 
     pub left-figures-are : (rule : ℕ) (e : Entry) → e ≡ comerOf s a → (f : Facing) → FacedIn s e f → (d : Book) → LeftIn (s .terms) e f (s .book) d
-        → figuresOf rule (testsBefore (s .terms) e (f .national) (entriesOf d)) ≡ figuresOf rule (leftTests s a)
+        → figuresOf rule (testsAgainst (s .terms) e (f .national) (entriesOf d)) ≡ figuresOf rule (leftTests s a)
     left-figures-are rule e q f x d y = rw (k, x .faces .national, y .left, q) refl
 
   module _ (k : enters (a .kind) ≡ false) where

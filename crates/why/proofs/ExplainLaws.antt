@@ -1,14 +1,14 @@
 -- What the tool tells, by what the handler answers in another room: the answer does not depend on the room, and the reports that it wrote there, stored at the
 -- front of the room that was lent, are those that it would have written in that.
 -- Assumes nothing.
-use Prim.Native.Nat.{ℕ, zero, suc, _*_, _≤_, _<_}
+use Prim.Native.Nat.{ℕ, _*_, _≤_, _<_}
 use mathlib.Core.Path.{_≡_, refl, sym, ap, ap₂, subst, _∙_}
 use mathlib.Core.Bool.{Bool, true, false, cond, not}
-use mathlib.Core.List.{List, _++_}
+use mathlib.Core.List.{List}
 use mathlib.Core.Option.{Option, none, some}
 use native.Mathlib.Omega.{arith}
 use lib.Dec.{eqb, leb}
-use lib.ListN.{length, take, drop}
+use lib.ListN.{length, take}
 use lib.Seq.{sets, take-at}
 use borrow.Author.Tests.{eqb-true, eqb-false, ne-eqb, leb-false, lt-leb, le-ltb, lt-ltb}
 use Rattle.packing.specs.declared.message.Event.{Event}
@@ -20,14 +20,15 @@ use Rattle.series.specs.declared.Series.{Series}
 use Rattle.series.specs.Series.{soundSeries}
 use Rattle.handler.specs.declared.Answer.{Answer}
 use Rattle.handler.specs.Asked.{askOf}
+use Rattle.handler.specs.Acts.{Accepted}
 use Rattle.handler.specs.Refuse.{refusalOf}
 use Rattle.handler.specs.Accept.{done}
-use Rattle.handler.specs.Handle.{Handled, firstOf, beforeReading, inRoom, refused, refusedOr, accepted, heard, handledAs}
+use Rattle.handler.specs.Handle.{Handled, firstOf, inRoom, refused, refusedOr, accepted, heard, handledAs}
 use Rattle.handler.proofs.Accepted.{done-part}
 use Rattle.why.specs.declared.Why.{Why}
 use Rattle.why.specs.declared.Why.the-variants.{Refused}
-use Rattle.why.specs.Why.{Accepts, whyOf, inLent, refusalAt, explainedAs}
-use Rattle.why.proofs.AcceptLaws.{Heard, heard-of, accepted-so}
+use Rattle.why.specs.Why.{whyOf, inLent, refusalAt, explainedAs}
+use Rattle.why.proofs.AcceptLaws.{Heard, heard-of}
 
 -- ---- the answer and the room ----
 
@@ -114,8 +115,8 @@ module _ (s : Series) (event : Option Event) (place : ℕ) (room held : List ℕ
       same-message : hears .message ≡ e
       same-message = let z : some (hears .message) ≡ some e = sym (hears .read) ∙ read in cc
 
-      pub accepts-event : Accepts s (askOf e)
-      accepts-event = subst (λ (x : Event). Accepts s (askOf x)) same-message (hears .accepts)
+      pub accepts-event : Accepted s (askOf e)
+      accepts-event = subst (λ (x : Event). Accepted s (askOf x)) same-message (hears .accepts)
 
       abbrev reports : List Report
       reports = done (s .terms) (askOf e) (entriesOf (s .book)) .records
@@ -127,7 +128,7 @@ module _ (s : Series) (event : Option Event) (place : ℕ) (room held : List ℕ
       counts = ap (λ (x : Answer). x .count) answer-is ∙ ap (λ (h : Handled). h .answer .count) answer-accepted
 
       few : 14 * length reports ≤ roomSize
-      few = omega (arith, done-part s (askOf e) (accepted-so s (askOf e) accepts-event) .few)
+      few = omega (arith, done-part s (askOf e) accepts-event .few)
 
       held-accepted : handledAs s event held ≡ accepted s (askOf e) held
       held-accepted =

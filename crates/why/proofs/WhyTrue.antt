@@ -3,11 +3,10 @@
 -- Assumes nothing.
 use Prim.Native.Nat.{ℕ, zero, suc, _+_, _*_, _≤_, _<_}
 use mathlib.Core.Path.{_≡_, refl, sym, ap, subst, _∙_}
-use mathlib.Core.Bool.{Bool, true, false, cond}
+use mathlib.Core.Bool.{true}
 use mathlib.Core.List.{List, []}
 use mathlib.Core.Option.{Option, none, some}
 use native.Mathlib.Omega.{arith}
-use lib.Dec.{eqb, leb}
 use lib.ListN.{take, drop}
 use lib.Seq.{drop-drop}
 use borrow.Author.Tests.{eq-eqb, ne-eqb, le-leb, lt-leb}
@@ -16,7 +15,6 @@ use Rattle.prices.specs.Test.{Test, figuresOf}
 use Rattle.prices.proofs.TableLaws.{FirstTest}
 use Rattle.kinds.specs.Kinds.{enters}
 use Rattle.lists.specs.Tests.{All}
-use Rattle.lists.specs.Run.{Ran}
 use Rattle.lists.proofs.Bools.{cond-either}
 use Rattle.lists.proofs.TestLaws.{all-append}
 use Rattle.packing.specs.declared.message.Event.{Event}
@@ -36,36 +34,37 @@ use Rattle.arrival.proofs.TableTold.{Told, rejection-told, rest-told, no-figure
 use Rattle.series.specs.declared.Series.{Series}
 use Rattle.handler.specs.declared.Ask.{Ask}
 use Rattle.handler.specs.Asked.{askOf}
-use Rattle.handler.specs.Accept.{done}
+use Rattle.handler.specs.Accept.{comerOf, done}
 use Rattle.handler.specs.Handle.{Handled, handled}
-use Rattle.handler.proofs.Passed.{Accepted, accepted-as, accepted-arriving}
+use Rattle.handler.specs.Acts.{Accepted}
+use Rattle.handler.proofs.Passed.{accepted-as, accepted-arriving}
 use Rattle.handler.proofs.OwnPart.{own-tells}
 use Rattle.handler.proofs.Demands.{ownOf, settlingOf, settling-says, OfReport, reports-hold}
 use Rattle.why.specs.declared.Why.{Why}
 use Rattle.why.specs.declared.Why.the-variants.{NoReason, Refused}
-use Rattle.why.specs.Why.{comerOf, foundTests, leftTests, given, reasonFor, whyOf, Explained, inLent, explainedAs, explained}
+use Rattle.why.specs.Why.{foundTests, leftTests, given, reasonFor, whyOf, Explained, inLent, explainedAs, explained}
 
 -- ---- what is claimed ----
 
 -- A RULE THAT IS TOLD, of what the message enters: the number is the report's; its test is the first that holds, of the figures told, of those that were put to
--- the entry in document 01's order: price protection before the book that the message found, the others before the book in which the entry would post; and the
+-- the entry in document 01's order: price protection in the book that the message found, the others in the book in which the entry would post; and the
 -- second figure of 21 is the price of an undisplayed entry there, to which none is better
-pub record TrueReason (s : Series) (a : Ask) (posting : List Entry) (why : ℕ) (w : Why) : Type 0 where
+pub record TrueRule (s : Series) (a : Ask) (posting : List Entry) (why : ℕ) (w : Why) : Type 0 where
   pub enters : enters (a .kind) ≡ true
   pub figures : Figures
   pub told : w ≡ given why figures
   pub first : FirstTest (comerOf s a .sell) (testsPut (s .terms) (comerOf s a) (entriesOf (s .book)) posting) why figures
   pub best : why ≡ 21 → BestUndisplayed (comerOf s a .sell) posting (figures .second)
 
--- of a cancelled report: up to 26 it is the entry's own rest, told before the book that its trades left, with the replaced quote gone; from 27 on two zeros
+-- of a cancelled report: up to 26 it is the entry's own rest, told in the book that its trades left, with the replaced quote gone; from 27 on two zeros
 pub record TrueCancel (s : Series) (a : Ask) (number why : ℕ) (w : Why) : Type 0 where
-  pub rest : why ≤ 26 → (number ≡ comerOf s a .number) × TrueReason s a (bookLeft (s .terms) (comerOf s a) (entriesOf (s .book))) why w
+  pub rest : why ≤ 26 → (number ≡ comerOf s a .number) × TrueRule s a (bookLeft (s .terms) (comerOf s a) (entriesOf (s .book))) why w
   pub zeros : 27 ≤ why → w ≡ given why (record { first = 0; second = 0 })
 
--- WHAT IS TOLD OF EACH REPORT: of a rejection 20 to 26, told before the book that the message found
+-- WHAT IS TOLD OF EACH REPORT: of a rejection 20 to 26, told in the book that the message found
 abbrev pub TrueOf : Series → Ask → Report → Why → Type 0
 TrueOf s a Noted w = w ≡ NoReason
-TrueOf s a (Rejected why sell party number limit quantity) w = (why ≤ 26) × TrueReason s a (entriesOf (s .book)) why w
+TrueOf s a (Rejected why sell party number limit quantity) w = (number ≡ comerOf s a .number) × ((why ≤ 26) × TrueRule s a (entriesOf (s .book)) why w)
 TrueOf s a (Traded sell party number other price quantity) w = w ≡ NoReason
 TrueOf s a (Rested sell party number display working quantity) w = w ≡ NoReason
 TrueOf s a (Repriced sell party number display working quantity) w = w ≡ NoReason
@@ -79,7 +78,7 @@ module _ (s : Series) (a : Ask) (ok : Accepted s a) where
 
   told-true : (k : enters (a .kind) ≡ true) (posting : List Entry) (why : ℕ) → Told (s .terms) (comerOf s a) (entriesOf (s .book)) posting why
       → (xs : List Test)
-      → xs ≡ testsPut (s .terms) (comerOf s a) (entriesOf (s .book)) posting → TrueReason s a posting why (given why (figuresOf why xs))
+      → xs ≡ testsPut (s .terms) (comerOf s a) (entriesOf (s .book)) posting → TrueRule s a posting why (given why (figuresOf why xs))
   told-true k posting why x xs same = record {
     enters = k;
     figures = figuresOf why (testsPut (s .terms) (comerOf s a) (entriesOf (s .book)) posting);
@@ -102,8 +101,11 @@ module _ (s : Series) (a : Ask) (ok : Accepted s a) where
   arrival-true k =
       arrived-says-why (s .terms) (comerOf s a) (entriesOf (s .book)) Holds (record {
         rejects = λ q why some h. (
-          omega (arith, h, rejection-among (s .terms) (comerOf s a) (entriesOf (s .book)) .most),
-          told-true k (entriesOf (s .book)) why (rejection-told (accepted-arriving s a ok k) why some h) (foundTests s a) (rw k refl),
+          refl,
+          (
+            omega (arith, h, rejection-among (s .terms) (comerOf s a) (entriesOf (s .book)) .most),
+            told-true k (entriesOf (s .book)) why (rejection-told (accepted-arriving s a ok k) why some h) (foundTests s a) (rw k refl),
+          ),
         );
         cancels = λ q why own side x o w. no-price (x .number) why own;
         trades = λ mi y q w. refl;
@@ -141,10 +143,11 @@ read-at (suc n) room (suc at) h P a =
     ahead : 14 + reportSize * at ≡ reportSize * suc at
     ahead = omega arith
 
--- THE REPORT THAT STANDS AT THE PLACE, and that what is told of it is true
-pub record WhyTrue (s : Series) (a : Ask) (place : ℕ) (x : Explained) : Type 0 where
+-- THE ROOM IS THE HANDLER'S, A REPORT STANDS AT THE PLACE, and what is told of it is true
+pub record WhyTrue (s : Series) (a : Ask) (place : ℕ) (h : Handled) (x : Explained) : Type 0 where
+  pub same-room : x .room ≡ h .room
   pub report : Report
-  pub there : reportAt (x .room) place ≡ some report
+  pub there : reportAt (h .room) place ≡ some report
   pub true-of-it : TrueOf s a report (x .why)
 
 -- what is told where nothing is refused
@@ -160,9 +163,9 @@ told-of s message room place e read free more =
     ) refl
 
 pub why-true : (s : Series) (message room : List ℕ) (place : ℕ) (e : Event) → unpackOf messages message ≡ some e → handled s message room .answer .refusal ≡ 0
-    → place < handled s message room .answer .count → WhyTrue s (askOf e) place (explained s message place room)
+    → place < handled s message room .answer .count → WhyTrue s (askOf e) place (handled s message room) (explained s message place room)
 why-true s message room place e read free more =
-    subst (WhyTrue s (askOf e) place) (sym (told-of s message room place e read free more))
+    subst (WhyTrue s (askOf e) place (handled s message room)) (sym (told-of s message room place e read free more))
     (by (reportAt (handled s message room .room) place) refl
     (read-at (handled s message room .answer .count) (handled s message room .room) place more (OfReport Said)
     (reports-hold s message room e read free Said (done-true s (askOf e) (accepted-as s message room e read free)))))
@@ -171,9 +174,10 @@ why-true s message room place e read free more =
     Said r = TrueOf s (askOf e) r (reasonFor s (askOf e) r)
 
     by : (o : Option Report) → reportAt (handled s message room .room) place ≡ o → OfReport Said o
-        → WhyTrue s (askOf e) place (inLent (whyOf s (some e) (reportAt (handled s message room .room) place)) (handled s message room .room))
+        → WhyTrue s (askOf e) place (handled s message room)
+        (inLent (whyOf s (some e) (reportAt (handled s message room .room) place)) (handled s message room .room))
     by none q h = absurd h
-    by (some r) q h = record { report = r; there = q; true-of-it = subst (TrueOf s (askOf e) r) (sym (ap (whyOf s (some e)) q)) h }
+    by (some r) q h = record { same-room = refl; report = r; there = q; true-of-it = subst (TrueOf s (askOf e) r) (sym (ap (whyOf s (some e)) q)) h }
 
 -- ---- "Refusals: 12, place at or beyond the count, tested after the message's own refusals" ----
 

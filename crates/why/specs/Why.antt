@@ -1,8 +1,7 @@
 -- WHY: document 02, 1. "Add a tool that takes the state before, the message and one report's place, and gives the rule's number with the two figures compared".
 -- Assumes nothing.
-use Prim.Native.Nat.{ℕ, _≤_}
-use mathlib.Core.Path.{_≡_}
-use mathlib.Core.Bool.{true, cond, not}
+use Prim.Native.Nat.{ℕ}
+use mathlib.Core.Bool.{cond, not}
 use mathlib.Core.List.{List, []}
 use mathlib.Core.Option.{Option, none, some}
 use lib.Dec.{eqb, leb}
@@ -21,11 +20,9 @@ use Rattle.arrival.specs.declared.Facing.{Facing}
 use Rattle.arrival.specs.Arrive.{bookLeft, testsPut}
 use Rattle.arrival.specs.Asks.{Faces}
 use Rattle.series.specs.declared.Series.{Series}
-use Rattle.series.specs.Series.{soundSeries}
 use Rattle.handler.specs.declared.Ask.{Ask}
 use Rattle.handler.specs.Asked.{askOf}
-use Rattle.handler.specs.Refuse.{refusalOf}
-use Rattle.handler.specs.Accept.{comer}
+use Rattle.handler.specs.Accept.{comerOf}
 use Rattle.handler.specs.declared.Answer.{Answer}
 use Rattle.handler.specs.Handle.{Handled, firstOf, handledAs}
 use Rattle.why.specs.declared.Why.{Why}
@@ -48,15 +45,13 @@ numbersOf (Refused why) = record { refusal = why; rule = 0; first = 0; second = 
 
 -- ---- one report ----
 
--- the quote or order that a message enters
-abbrev pub comerOf : Series → Ask → Entry
-comerOf s a = comer (s .terms .given) a
-
--- the tests put to it before the book that the message found, which rejected it: none to a message that enters nothing
+-- the tests put to the quote or order that a message enters, all of them in the book that the message found, as to one that is rejected; none to a message
+-- that enters nothing
 abbrev pub foundTests : Series → Ask → List Test
 foundTests s a = cond (enters (a .kind)) (testsPut (s .terms) (comerOf s a) (entriesOf (s .book)) (entriesOf (s .book))) []
 
--- those put to it where it was not rejected: those that stop its rest before the book that its trades left, with the replaced quote gone
+-- those put to one that is not rejected: price protection in the book that the message found, the others in the book that its trades left, with the replaced
+-- quote gone
 abbrev pub leftTests : Series → Ask → List Test
 leftTests s a =
     cond (enters (a .kind))
@@ -114,12 +109,6 @@ unfoldable pub explained : Series → List ℕ → ℕ → List ℕ → Explaine
 explained s message place room = explainedAs s (unpackOf messages message) place room
 
 -- ---- words for contracts ----
-
--- the message is accepted
-pub record Accepts (s : Series) (a : Ask) : Type 0 where
-  pub sound : soundSeries s ≡ true
-  pub kind : 1 ≤ a .kind
-  pub passes : refusalOf s a ≡ 0
 
 -- what an entry faces in the book of a series, which is well-formed
 pub record FacedIn (s : Series) (e : Entry) (f : Facing) : Type 0 where

@@ -23,11 +23,12 @@ ghost use lib.Seq.{sets};
 ghost use Rattle.packing.specs.Report.{reportSize};
 ghost use Rattle.packing.specs.Room.{reportAt, roomSize};
 ghost use Rattle.handler.specs.Asked.{askOf};
-ghost use Rattle.why.specs.Why.{Accepts, whyOf, inLent, explainedAs, explained};
+ghost use Rattle.handler.specs.Acts.{Accepted};
+ghost use Rattle.why.specs.Why.{whyOf, inLent, explainedAs, explained};
 
 // Why the report at a place of the room says what it says.
 pub fn why_at_place(series: Series, event: Event, room: &[u8], place: usize) -> Why
-    requires { ⌜ Accepts series (askOf event) ⌝ }
+    requires { ⌜ Accepted series (askOf event) ⌝ }
     ensures { λ r. ⌜ r ≡ whyOf series (some event) (reportAt (now (room .entry)) place) ⌝ }
 {
     let Standing::Told(report) = read_report(room, place) else {
@@ -45,7 +46,7 @@ fn told_in(
     held: &[u8],
     room: &mut [u8],
 ) -> Why
-    requires { ⌜ Accepts series (askOf event) ⌝ }
+    requires { ⌜ Accepted series (askOf event) ⌝ }
     requires { ⌜ (reportSize * count ≤ length (now held)) × (reportSize * count ≤ length (now room)) ⌝ }
     ensures { λ r. ⌜ r ≡ whyOf series (some event) (reportAt (now (room .exit)) place) ⌝ }
     ensures { λ _. ⌜ now (room .exit) ≡ sets (now (room .entry)) 0 (take (reportSize * count) (now (held .entry))) ⌝ }
@@ -70,6 +71,7 @@ fn why_held(series: Series, read: Unpacked, place: usize, room: &mut [u8], held:
     if why != 0 {
         return Why::Refused(why);
     }
+    // What unpacks to nothing was refused with 1.
     let Unpacked::Message(event) = read else {
         return Why::NoReason;
     };

@@ -18,7 +18,8 @@ ghost use mathlib.Core.Path.{_≡_};
 ghost use Rattle.prices.specs.Test.{figuresOf};
 ghost use Rattle.series.specs.Series.{soundSeries};
 ghost use mathlib.Core.Bool.{true};
-ghost use Rattle.why.specs.Why.{Accepts, FacedIn, given, foundTests, leftTests, reasonFor};
+ghost use Rattle.handler.specs.Acts.{Accepted};
+ghost use Rattle.why.specs.Why.{FacedIn, given, foundTests, leftTests, reasonFor};
 
 // What an entry faces in the book of a sound series.
 fn facing_in(s: Series, e: Entry) -> Facing
@@ -29,9 +30,9 @@ fn facing_in(s: Series, e: Entry) -> Facing
     facing_of(check, s.terms, e.sell)
 }
 
-// The figures of a rule that rejected what the message entered: before the book that it found.
+// The figures of a rule that rejected what the message entered: in the book that it found.
 fn found_figures(s: Series, a: Ask, rule: u32) -> Figures
-    requires { ⌜ Accepts s a ⌝ }
+    requires { ⌜ Accepted s a ⌝ }
     ensures { λ r. ⌜ r ≡ figuresOf rule (foundTests s a) ⌝ }
 {
     if !is_entering(a.kind) {
@@ -43,9 +44,9 @@ fn found_figures(s: Series, a: Ask, rule: u32) -> Figures
     figures_for(rule, s.book, t, e, f)
 }
 
-// The figures of a rule that cancelled its rest: before the book in which that would have posted.
+// The figures of a rule that cancelled its rest: in the book in which that would have posted.
 fn left_figures(s: Series, a: Ask, rule: u32) -> Figures
-    requires { ⌜ Accepts s a ⌝ }
+    requires { ⌜ Accepted s a ⌝ }
     ensures { λ r. ⌜ r ≡ figuresOf rule (leftTests s a) ⌝ }
 {
     if !is_entering(a.kind) {
@@ -70,7 +71,7 @@ fn given_with(rule: u32, figures: Figures) -> Why
 
 // Why a report of a message that is accepted says what it says.
 pub fn reason_of(s: Series, a: Ask, report: Report) -> Why
-    requires { ⌜ Accepts s a ⌝ }
+    requires { ⌜ Accepted s a ⌝ }
     ensures { λ r. ⌜ r ≡ reasonFor s a report ⌝ }
 {
     match report {

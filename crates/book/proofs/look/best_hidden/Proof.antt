@@ -3,13 +3,13 @@ use native.Mathlib.Omega.{arith}
 use Rattle.lists.proofs.LoopLaws.{Scanning, scan-start, scan-turn, scan-done}
 use Rattle.book.specs.declared.Entry.{Entry}
 use Rattle.book.specs.Shape.{zeroEntry, entriesOf}
-use Rattle.book.specs.Look.{facing, hidden, nearest}
+use Rattle.book.specs.Look.{facing, hiddenPrice, nearest}
 use borrow.Author.Needs.{needs}
 use Rattle.book.proofs.look.best_hidden.Statement.{statement}
 use Rattle.book.proofs.look.best_hidden.Tie as tie
 
 abbrev Inv-loop : tie.InvT-loop
-Inv-loop sell b n best₀ i₀ best i = Scanning (λ (q : ℕ) (_ : ℕ) (e : Entry). facing hidden sell q e) best₀ (b .entries) n best i
+Inv-loop sell b n best₀ i₀ best i = Scanning (λ (q : ℕ) (_ : ℕ) (e : Entry). facing hiddenPrice sell q e) best₀ (b .entries) n best i
 
 abbrev μ-loop : tie.MeasureT-loop
 μ-loop sell b n best₀ i₀ best i = n - i

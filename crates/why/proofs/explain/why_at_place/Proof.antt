@@ -1,8 +1,9 @@
+use Rattle.handler.specs.Acts.{Accepted}
 use mathlib.Core.Path.{refl, sym, ap, subst, _∙_}
 use mathlib.Core.Option.{some}
 use Rattle.packing.specs.Room.{reportAt}
 use Rattle.packing.proofs.ReportLaws.{was-nothing, was-told}
-use Rattle.why.specs.Why.{Accepts, whyOf}
+use Rattle.why.specs.Why.{whyOf}
 use borrow.Author.Needs.{needs}
 use Rattle.why.proofs.explain.why_at_place.Statement.{statement}
 use Rattle.why.proofs.explain.why_at_place.Tie as tie
@@ -31,7 +32,7 @@ reason-of-requires : tie.Need-reason-of-requires
 reason-of-requires c κs =
     let at-ask-of : tie.After-ask-of = search in
     let start : tie.Start = search in
-    subst (Accepts (start .args .series)) (sym (at-ask-of .ask-of .ensures)) (start .pre)
+    subst (Accepted (start .args .series)) (sym (at-ask-of .ask-of .ensures)) (start .pre)
 
 returns-2 : tie.Need-returns-2
 returns-2 c =
