@@ -1,18 +1,15 @@
 -- The lines that are printed, part by part, and how long they are.
-use Prim.Native.Nat.{ℕ, suc, _+_, _-_, _*_, _/_, _^_, _≤_, _<_}
+use Prim.Native.Nat.{ℕ, suc, _+_, _-_, _*_, _^_, _≤_, _<_}
 use mathlib.Core.List.{List, [], _∷_, _++_}
-use mathlib.Core.Option.{Option, none}
+use mathlib.Core.Option.{Option}
 use mathlib.Core.Path.{_≡_, sym, ap, _∙_}
 use native.Mathlib.Numerals.{add-one}
 use native.Mathlib.Omega.{arith}
-use lib.ListN.{length, take, drop, getD, length-append, length-drop, drop-of-length-le}
+use lib.ListN.{length, drop, getD, length-append, drop-of-length-le}
 use lib.Seq.{drop-cons, drop-drop}
 use Rattle.packing.specs.declared.report.Report.{Report}
-use Rattle.packing.specs.declared.report.Unpacked.{Unpacked}
-use Rattle.packing.specs.Codec.{unpackOf}
-use Rattle.packing.specs.Report.{reports, unpacked, reportSize}
-use Rattle.packing.specs.Room.{readBack}
-use Rattle.packing.proofs.CodecLaws.{unpack-short}
+use Rattle.packing.specs.Report.{reportSize}
+use Rattle.packing.specs.Room.{reportAt, readBack}
 use Rattle.lines.specs.Decimal.{decimal}
 use Rattle.lines.specs.Buffer.{longestLine}
 use Rattle.lines.proofs.DecimalLaws.{decimal-length}
@@ -43,29 +40,14 @@ next-field xs i h = ap spaced (drop-cons xs i 0 h ∙ ap (λ (k : ℕ). getD xs 
 pub no-field : (xs : List ℕ) (i : ℕ) → length xs ≤ i → spaced (drop i xs) ≡ []
 no-field xs i h = ap spaced (drop-of-length-le xs h)
 
--- what stands at a place of the room, and what is left from there on
-abbrev pub standsAt : List ℕ → ℕ → Option Report
-standsAt room k = unpackOf reports (take reportSize (drop (reportSize * k) room))
-
+-- what is left of the room's reports from a place on
 abbrev pub leftFrom : List ℕ → ℕ → ℕ → List (Option Report)
 leftFrom room count k = readBack (count - k) (drop (reportSize * k) room)
 
-pub no-place : (room : List ℕ) (k : ℕ) → length room / 14 ≤ k → standsAt room k ≡ none
-no-place room k h = unpack-short reports (drop (reportSize * k) room) (rw length-drop (omega arith))
-
--- the part of the room that is handed to the unpacker
-pub place-part : (room : List ℕ) (k : ℕ) (u : Unpacked)
-    → u ≡ unpacked (unpackOf reports (take (reportSize * k + 14 - reportSize * k) (drop (reportSize * k) room)))
-    → u ≡ unpacked (standsAt room k)
-place-part room k u h = h ∙ ap (λ (n : ℕ). unpacked (unpackOf reports (take n (drop (reportSize * k) room)))) long
-  where
-    long : reportSize * k + 14 - reportSize * k ≡ 14
-    long = omega arith
-
-pub next-place : (room : List ℕ) (count k : ℕ) → k < count → leftFrom room count k ≡ standsAt room k ∷ leftFrom room count (k + 1)
+pub next-place : (room : List ℕ) (count k : ℕ) → k < count → leftFrom room count k ≡ reportAt room k ∷ leftFrom room count (k + 1)
 next-place room count k h =
     ap (λ (n : ℕ). readBack n (drop (reportSize * k) room)) fewer
-    ∙ ap (λ (l : List ℕ). standsAt room k ∷ readBack (count - (k + 1)) l) (drop-drop 14 (reportSize * k) room ∙ ap (λ (n : ℕ). drop n room) ahead)
+    ∙ ap (λ (l : List ℕ). reportAt room k ∷ readBack (count - (k + 1)) l) (drop-drop 14 (reportSize * k) room ∙ ap (λ (n : ℕ). drop n room) ahead)
   where
     fewer : count - k ≡ suc (count - (k + 1))
     fewer = omega arith
@@ -74,7 +56,7 @@ next-place room count k h =
     ahead = omega arith
 
 pub next-line : (number : ℕ) (room : List ℕ) (count k : ℕ) → k < count
-    → reportLines number (leftFrom room count k) ≡ lineOf number (standsAt room k) ++ reportLines number (leftFrom room count (k + 1))
+    → reportLines number (leftFrom room count k) ≡ lineOf number (reportAt room k) ++ reportLines number (leftFrom room count (k + 1))
 next-line number room count k h = ap (reportLines number) (next-place room count k h)
 
 pub all-lines : (number : ℕ) (room : List ℕ) (count : ℕ) → reportLines number (readBack count room) ≡ reportLines number (leftFrom room count 0)

@@ -1,21 +1,18 @@
 // One line for each report, and one for a refusal.
 ghost use Rattle.io.specs.Counts.{Counts};
-ghost use Prim.Native.Nat.{_+_, _*_, _≤_};
+ghost use Prim.Native.Nat.{_+_, _≤_};
 ghost use mathlib.Core.Path.{_≡_};
-ghost use lib.ListN.{length, take, drop};
-ghost use Rattle.packing.specs.Codec.{unpackOf};
-ghost use Rattle.packing.specs.Report.{reports, reportSize};
-ghost use Rattle.packing.specs.Room.{readBack};
+ghost use lib.ListN.{length};
+ghost use Rattle.packing.specs.Room.{reportAt, readBack};
 ghost use Rattle.lines.specs.Lines.{spaced, fieldLine, reportLine, refusalLine, lineOf, reportLines};
 ghost use Rattle.lines.specs.Buffer.{TextPut, roomy, answerPrinted};
 use crate::text::put_field;
 use crate::text::put_number;
 use packing::report::Report;
-use packing::report::SIZE;
 use packing::report::Unpacked;
 use packing::report::fields_of;
-use packing::report::unpack;
 use packing::room::MOST_REPORTS;
+use packing::room::read_report;
 use packing::room::store;
 
 // The most bytes that a line has, and a message's lines together.
@@ -57,16 +54,10 @@ fn put_report(out: &mut [u8], at: usize, number: u64, report: Report) -> usize
 
 // The report at a place of the room; no line where none stands there.
 fn put_place(out: &mut [u8], at: usize, number: u64, room: &[u8], k: usize) -> usize
-    requires { ⌜ at + length (lineOf number (unpackOf reports (take reportSize (drop (reportSize * k) (now room))))) ≤ length (now out) ⌝ }
-    ensures { λ r.
-        ⌜ TextPut (now (out .entry)) at (lineOf number (unpackOf reports (take reportSize (drop (reportSize * k) (now (room .entry)))))) (now (out .exit)) r ⌝ }
+    requires { ⌜ at + length (lineOf number (reportAt (now room) k)) ≤ length (now out) ⌝ }
+    ensures { λ r. ⌜ TextPut (now (out .entry)) at (lineOf number (reportAt (now (room .entry)) k)) (now (out .exit)) r ⌝ }
 {
-    if room.len() / SIZE <= k {
-        return at;
-    }
-    let from = SIZE * k;
-    let to = from + SIZE;
-    let Unpacked::Told(report) = unpack(&room[from..to]) else {
+    let Unpacked::Told(report) = read_report(room, k) else {
         return at;
     };
     put_report(out, at, number, report)

@@ -1,8 +1,8 @@
 use Prim.Native.Nat.{_+_, _-_}
-use Rattle.packing.specs.Room.{readBack}
+use Rattle.packing.specs.Room.{reportAt, readBack}
 use Rattle.lines.specs.Lines.{lineOf, reportLines}
 use Rattle.lines.proofs.BufferLaws.{Going, going-start, going-turn, going-done, going-left, going-length, going-room}
-use Rattle.lines.proofs.LineLaws.{standsAt, leftFrom, all-lines, next-line, no-line}
+use Rattle.lines.proofs.LineLaws.{leftFrom, all-lines, next-line, no-line}
 use borrow.Author.Needs.{needs}
 use Rattle.lines.proofs.line.put_reports.Statement.{statement}
 use Rattle.lines.proofs.line.put_reports.Tie as tie
@@ -26,7 +26,7 @@ put-place-requires c κs =
     let at-loop : tie.At-loop Inv-loop μ-loop = search in
     let start : tie.Start Inv-loop μ-loop = search in
     let l = at-loop .loop in
-    going-room (lineOf (start .args .number) (standsAt (start .args .room .now) (l .k)))
+    going-room (lineOf (start .args .number) (reportAt (start .args .room .now) (l .k)))
     (reportLines (start .args .number) (leftFrom (start .args .room .now) (start .args .count) (l .k + 1)))
     (next-line (start .args .number) (start .args .room .now) (start .args .count) (l .k) (at-loop-test .loop-test .taken))
     (l .inv)
@@ -46,7 +46,7 @@ loop-again c =
     let start : tie.Start Inv-loop μ-loop = search in
     let a = start .args in
     let l = at-loop .loop in
-    going-turn (lineOf (a .number) (standsAt (a .room .now) (l .k)))
+    going-turn (lineOf (a .number) (reportAt (a .room .now) (l .k)))
     (reportLines (a .number) (leftFrom (a .room .now) (a .count) (l .k + 1)))
     (next-line (a .number) (a .room .now) (a .count) (l .k) (at-loop-test .loop-test .taken))
     (l .inv)
