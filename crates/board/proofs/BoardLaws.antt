@@ -27,7 +27,7 @@ module _ (number : ℕ) (e : Entry) {fields : List ℕ} {place : ℕ} (is : fiel
   line-is all i stands = ap (fieldLine number) (is ∙ ap (λ (p : ℕ). entryFields p e) stands)
 
   pub line-few : number < 2 ^ 64 → FitWord (entryFields place e) → length (fieldLine number fields) ≤ longestLine
-  line-few n f = rw is (line-short number (entryFields place e) n refl f)
+  line-few n f = rw is (line-short number (entryFields place e) n (omega arith) f)
 
 -- ---- line by line ----
 

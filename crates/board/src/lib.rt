@@ -103,7 +103,8 @@ fn put_entry(out: &mut [u8], at: usize, number: u64, b: Book, n: usize, i: usize
     ensures { λ r. ⌜ r ≤ at + longestLine ⌝ }
 {
     let place = place_of(b, n, i);
-    put_line(out, at, number, fields_of(place, b.entries[i]))
+    let fields = fields_of(place, b.entries[i]);
+    put_line(out, at, number, &fields)
 }
 
 fn put_entries(out: &mut [u8], at: usize, number: u64, b: Book, n: usize) -> usize

@@ -50,7 +50,8 @@ nine-fields (Cancelled reason sell party entry limit quantity) = refl
 report-short : (number : ℕ) (r : Report) → number < 2 ^ 64 → packs reports r ≡ true → length (reportLine number r) ≤ longestLine
 unfolding reportLine
 report-short number r n h =
-    line-short number (fieldsOf r) n (nine-fields r) (fields-fit (reports .widths) (fieldsOf r) (0 ∷ []) narrow-report (packs-fit reports r h .0))
+    line-short number (fieldsOf r) n (omega (arith, nine-fields r))
+    (fields-fit (reports .widths) (fieldsOf r) (0 ∷ []) narrow-report (packs-fit reports r h .0))
 
 refusal-short : (number refusal : ℕ) → number < 2 ^ 64 → refusal < 2 ^ 32 → length (refusalLine number refusal) ≤ longestLine
 refusal-short number refusal n r =

@@ -24,14 +24,14 @@ pub refusal-length : (number refusal : ℕ) → length (refusalLine number refus
 unfolding refusalLine
 refusal-length number refusal = simp length-append
 
--- NO LINE OF NINE FIELDS IS LONGER THAN 120 BYTES, where each fits 32 bits and the message's number 64
+-- NO LINE OF UP TO NINE FIELDS IS LONGER THAN 120 BYTES, where each fits 32 bits and the message's number 64
 fields-short : (xs : List ℕ) → FitWord xs → length (spaced xs) ≤ 11 * length xs
 fields-short [] f = omega arith
 fields-short (x ∷ xs) f =
     omega (arith, length-append (space ∷ decimal x) (spaced xs), decimal-length 9 x (omega (arith, f .0)), fields-short xs (f .1))
 
-pub line-short : (number : ℕ) (xs : List ℕ) → number < 2 ^ 64 → length xs ≡ 9 → FitWord xs → length (fieldLine number xs) ≤ longestLine
-line-short number xs n nine f = omega (arith, line-length number xs, decimal-length 19 number (omega arith), fields-short xs f, nine)
+pub line-short : (number : ℕ) (xs : List ℕ) → number < 2 ^ 64 → length xs ≤ 9 → FitWord xs → length (fieldLine number xs) ≤ longestLine
+line-short number xs n few f = omega (arith, line-length number xs, decimal-length 19 number (omega arith), fields-short xs f, few)
 
 -- the next field, and the fields behind it
 pub next-field : (xs : List ℕ) (i : ℕ) → i < length xs → spaced (drop i xs) ≡ (space ∷ decimal (getD xs i 0)) ++ spaced (drop (i + 1) xs)

@@ -1,3 +1,3 @@
 // What the programs print: reports and refusals as lines of decimal numbers, put into a lent buffer.
 pub mod line;
-mod text;
+pub mod text;

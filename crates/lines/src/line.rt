@@ -21,23 +21,23 @@ const LINE: usize = 120;
 pub const LONGEST_ANSWER: usize = MOST_REPORTS * LINE;
 
 // The fields, each with a space before it.
-fn put_fields(out: &mut [u8], at: usize, fields: [u32; 9]) -> usize
-    requires { ⌜ at + length (spaced fields) ≤ length (now out) ⌝ }
-    ensures { λ r. ⌜ TextPut (now (out .entry)) at (spaced fields) (now (out .exit)) r ⌝ }
+fn put_fields(out: &mut [u8], at: usize, fields: &[u32]) -> usize
+    requires { ⌜ at + length (spaced (now fields)) ≤ length (now out) ⌝ }
+    ensures { λ r. ⌜ TextPut (now (out .entry)) at (spaced (now (fields .entry))) (now (out .exit)) r ⌝ }
 {
     let mut end = at;
     let mut i = 0usize;
-    while i < 9 {
+    while i < fields.len() {
         end = put_field(out, end, fields[i]);
         i += 1;
     }
     end
 }
 
-// The message's number and nine fields, one space between.
-pub fn put_line(out: &mut [u8], at: usize, number: u64, fields: [u32; 9]) -> usize
-    requires { ⌜ at + length (fieldLine number fields) ≤ length (now out) ⌝ }
-    ensures { λ r. ⌜ TextPut (now (out .entry)) at (fieldLine number fields) (now (out .exit)) r ⌝ }
+// The message's number and the fields behind it, one space between.
+pub fn put_line(out: &mut [u8], at: usize, number: u64, fields: &[u32]) -> usize
+    requires { ⌜ at + length (fieldLine number (now fields)) ≤ length (now out) ⌝ }
+    ensures { λ r. ⌜ TextPut (now (out .entry)) at (fieldLine number (now (fields .entry))) (now (out .exit)) r ⌝ }
 {
     let start = put_number(out, at, number);
     let end = put_fields(out, start, fields);
@@ -49,7 +49,8 @@ fn put_report(out: &mut [u8], at: usize, number: u64, report: Report) -> usize
     requires { ⌜ at + length (reportLine number report) ≤ length (now out) ⌝ }
     ensures { λ r. ⌜ TextPut (now (out .entry)) at (reportLine number report) (now (out .exit)) r ⌝ }
 {
-    put_line(out, at, number, fields_of(report))
+    let fields = fields_of(report);
+    put_line(out, at, number, &fields)
 }
 
 // The report at a place of the room; no line where none stands there.
@@ -77,7 +78,7 @@ fn put_reports(out: &mut [u8], at: usize, number: u64, count: usize, room: &[u8]
 }
 
 // The message's number, `refused`, the refusal.
-fn put_refusal(out: &mut [u8], at: usize, number: u64, refusal: u32) -> usize
+pub fn put_refusal(out: &mut [u8], at: usize, number: u64, refusal: u32) -> usize
     requires { ⌜ at + length (refusalLine number refusal) ≤ length (now out) ⌝ }
     ensures { λ r. ⌜ TextPut (now (out .entry)) at (refusalLine number refusal) (now (out .exit)) r ⌝ }
 {

@@ -19,7 +19,7 @@ fn put_digits(out: &mut [u8], at: usize, n: u64) -> usize
 }
 
 // Puts a number in decimal from `at` on, and answers where it ends. Most fields are one digit.
-pub(crate) fn put_number(out: &mut [u8], at: usize, n: u64) -> usize
+pub fn put_number(out: &mut [u8], at: usize, n: u64) -> usize
     requires { ⌜ at + length (decimal n) ≤ length (now out) ⌝ }
     ensures { λ r. ⌜ TextPut (now (out .entry)) at (decimal n) (now (out .exit)) r ⌝ }
 {
@@ -31,7 +31,7 @@ pub(crate) fn put_number(out: &mut [u8], at: usize, n: u64) -> usize
 }
 
 // Puts a space and a field behind it.
-pub(crate) fn put_field(out: &mut [u8], at: usize, field: u32) -> usize
+pub fn put_field(out: &mut [u8], at: usize, field: u32) -> usize
     requires { ⌜ at + length (space ∷ decimal field) ≤ length (now out) ⌝ }
     ensures { λ r. ⌜ TextPut (now (out .entry)) at (space ∷ decimal field) (now (out .exit)) r ⌝ }
 {

@@ -18,6 +18,9 @@ element-copy-out-fields-of c = search needs
 fields-of-requires : tie.Need-fields-of-requires
 fields-of-requires c κs = search needs
 
+slice-aggregate-put-line : tie.Need-slice-aggregate-put-line
+slice-aggregate-put-line c = search needs
+
 put-line-requires : tie.Need-put-line-requires
 put-line-requires c κs =
     let at-fields-of : tie.After-fields-of = search in
@@ -51,6 +54,7 @@ put-entry-spec =
     mul-fields-of
     element-copy-out-fields-of
     fields-of-requires
+    slice-aggregate-put-line
     put-line-requires
     same-length
     returns)

@@ -18,7 +18,7 @@ told : (c : tie.After-slice-known3)
     TextPut
     (start .args .out .now)
     (start .args .at)
-    (decimal (start .args .number) ++ spaced (start .args .fields))
+    (decimal (start .args .number) ++ spaced (start .args .fields .now))
     (at-put-fields .put-fields .last .0)
     (at-put-fields .put-fields .result)
 told c =
@@ -36,14 +36,14 @@ put-number-requires : tie.Need-put-number-requires
 put-number-requires c κs =
     let start : tie.Start = search in
     let a = start .args in
-    omega (arith, line-length (a .number) (a .fields), start .pre)
+    omega (arith, line-length (a .number) (a .fields .now), start .pre)
 
 put-fields-requires : tie.Need-put-fields-requires
 put-fields-requires c κs =
     let at-put-number : tie.After-put-number = search in
     let start : tie.Start = search in
     let p = at-put-number .put-number .ensures in
-    omega (arith, line-length (start .args .number) (start .args .fields), start .pre, p .ends, put-length p)
+    omega (arith, line-length (start .args .number) (start .args .fields .now), start .pre, p .ends, put-length p)
 
 slice-write-out : tie.Need-slice-write-out
 slice-write-out c = omega (arith, told-room c)
