@@ -53,7 +53,7 @@ report-short number r n h =
     line-short number (fieldsOf r) n (omega (arith, nine-fields r))
     (fields-fit (reports .widths) (fieldsOf r) (0 ∷ []) narrow-report (packs-fit reports r h .0))
 
-refusal-short : (number refusal : ℕ) → number < 2 ^ 64 → refusal < 2 ^ 32 → length (refusalLine number refusal) ≤ longestLine
+pub refusal-short : (number refusal : ℕ) → number < 2 ^ 64 → refusal < 2 ^ 32 → length (refusalLine number refusal) ≤ longestLine
 refusal-short number refusal n r =
     omega (arith, refusal-length number refusal, decimal-length 19 number (omega arith), decimal-length 9 refusal (omega arith))
 

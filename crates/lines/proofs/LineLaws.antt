@@ -55,18 +55,25 @@ next-place room count k h =
     ahead : reportSize * k + 14 ≡ 14 * (k + 1)
     ahead = omega arith
 
+pub all-places : (room : List ℕ) (count : ℕ) → readBack count room ≡ leftFrom room count 0
+all-places room count = ap (λ (n : ℕ). readBack n room) all
+  where
+    all : count ≡ count - 0
+    all = omega arith
+
+pub no-place-left : (room : List ℕ) (count k : ℕ) → count ≤ k → leftFrom room count k ≡ []
+no-place-left room count k h = ap (λ (n : ℕ). readBack n (drop (reportSize * k) room)) none-left
+  where
+    none-left : count - k ≡ 0
+    none-left = omega arith
+
+-- and the lines of these
 pub next-line : (number : ℕ) (room : List ℕ) (count k : ℕ) → k < count
     → reportLines number (leftFrom room count k) ≡ lineOf number (reportAt room k) ++ reportLines number (leftFrom room count (k + 1))
 next-line number room count k h = ap (reportLines number) (next-place room count k h)
 
 pub all-lines : (number : ℕ) (room : List ℕ) (count : ℕ) → reportLines number (readBack count room) ≡ reportLines number (leftFrom room count 0)
-all-lines number room count = ap (λ (n : ℕ). reportLines number (readBack n room)) all
-  where
-    all : count ≡ count - 0
-    all = omega arith
+all-lines number room count = ap (reportLines number) (all-places room count)
 
 pub no-line : (number : ℕ) (room : List ℕ) (count k : ℕ) → count ≤ k → reportLines number (leftFrom room count k) ≡ []
-no-line number room count k h = ap (λ (n : ℕ). reportLines number (readBack n (drop (reportSize * k) room))) none-left
-  where
-    none-left : count - k ≡ 0
-    none-left = omega arith
+no-line number room count k h = ap (reportLines number) (no-place-left room count k h)

@@ -1,3 +1,4 @@
+pub mod WhyLaws
 pub mod TextLaws
 pub mod HeldLaws
 pub mod SetupLaws

@@ -22,7 +22,7 @@ use Rattle.series.specs.Series.{newSeries}
 use Rattle.lines.specs.Lines.{refusalLine}
 use Rattle.lines.specs.Buffer.{longestAnswer}
 use Rattle.transcript.specs.declared.View.{View}
-use Rattle.transcript.specs.Transcript.{answered, textOf, messagesIn, messagesOf, linesFor, linesFrom, printedFor, transcript, setupIn, setupText}
+use Rattle.transcript.specs.Transcript.{answered, messageText, messagesIn, messagesOf, linesFor, linesFrom, printedFor, transcript, setupIn, setupText}
 use Rattle.transcript.specs.Held.{mostMessages, holdsNext, Telling, goesOn, next, tellOn, heldTold}
 use Rattle.transcript.proofs.Progress.{holds-last, tells-some, tells-within}
 
@@ -58,7 +58,7 @@ messages-next (b ∷ bytes) h =
 
 lines-next : (view : View) (number : ℕ) (s : Series) (bytes : List ℕ) → 1 ≤ length bytes
     → linesFrom view number s bytes
-    ≡ textOf view number (answered s (take messageSize bytes))
+    ≡ messageText view number s (take messageSize bytes)
     ++ linesFrom view (number + 1) (answered s (take messageSize bytes) .answer .series) (drop messageSize bytes)
 unfolding linesFor
 lines-next view number s bytes h = ap (linesFor view number s) (messages-next bytes h)
@@ -124,7 +124,7 @@ module _ (view : View) (ended : Bool) (held more : List ℕ) (whole : ended ≡ 
       let m = held-message ended held more (t .at) whole h in
       ap (λ (l : List ℕ). t .text ++ l)
       (lines-next view (t .number) (t .series) (rest held more (t .at)) (m .some)
-      ∙ ap₂ (λ (a b : List ℕ). textOf view (t .number) (answered (t .series) a) ++ linesFrom view (t .number + 1) (answered (t .series) a .answer .series) b)
+      ∙ ap₂ (λ (a b : List ℕ). messageText view (t .number) (t .series) a ++ linesFrom view (t .number + 1) (answered (t .series) a .answer .series) b)
       (m .message) (m .behind))
       ∙ sym (append-assoc (t .text) _ _)
 

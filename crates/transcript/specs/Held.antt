@@ -14,7 +14,7 @@ use Rattle.lines.specs.Buffer.{TextPut, longestAnswer, printed}
 use Rattle.transcript.specs.declared.Begun.{Begun}
 use Rattle.transcript.specs.declared.Told.{Told}
 use Rattle.transcript.specs.declared.View.{View}
-use Rattle.transcript.specs.Transcript.{answered, textOf, setupIn, setupText}
+use Rattle.transcript.specs.Transcript.{answered, messageText, setupIn, setupText}
 
 -- ---- setup ----
 
@@ -58,7 +58,7 @@ next view held t = record {
   series = answered (t .series) (messageAt held (t .at)) .answer .series;
   number = t .number + 1;
   at = min (t .at + messageSize) (length held);
-  text = t .text ++ textOf view (t .number) (answered (t .series) (messageAt held (t .at)));
+  text = t .text ++ messageText view (t .number) (t .series) (messageAt held (t .at));
 }
 
 -- at most so many messages more
@@ -77,7 +77,7 @@ pub record Turned (view : View) (held : List ℕ) (t : Told) (out : List ℕ) (t
   pub series : t′ .series ≡ answered (t .series) (messageAt held (t .at)) .answer .series
   pub number : t′ .number ≡ t .number + 1
   pub at : t′ .at ≡ min (t .at + messageSize) (length held)
-  pub put : TextPut out (t .used) (textOf view (t .number) (answered (t .series) (messageAt held (t .at)))) out′ (t′ .used)
+  pub put : TextPut out (t .used) (messageText view (t .number) (t .series) (messageAt held (t .at))) out′ (t′ .used)
   pub fits : t′ .used ≤ length out′
 
 -- the whole in Rattle's type

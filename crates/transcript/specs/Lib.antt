@@ -1,2 +1,3 @@
+pub mod WhyLines
 pub mod Transcript
 pub mod Held

@@ -4,10 +4,11 @@ use Prim.Native.Nat.{ℕ, zero, suc, _+_}
 use mathlib.Core.List.{List, [], _∷_, _++_}
 use mathlib.Core.Option.{Option, none, some}
 use lib.ListN.{length, take, drop, replicate}
+use Rattle.packing.specs.declared.message.Event.{Event}
 use Rattle.packing.specs.declared.setup.Setup.{Setup}
 use Rattle.packing.specs.Codec.{nothing, unpackOf}
 use Rattle.packing.specs.Setup.{setups, setupSize}
-use Rattle.packing.specs.Message.{messageSize}
+use Rattle.packing.specs.Message.{messages, messageSize}
 use Rattle.packing.specs.Room.{roomSize}
 use Rattle.book.specs.Shape.{entriesOf}
 use Rattle.series.specs.declared.Series.{Series}
@@ -16,7 +17,8 @@ use Rattle.handler.specs.Handle.{Handled, handled}
 use Rattle.lines.specs.Lines.{refusalLine, answerText}
 use Rattle.board.specs.Board.{boardText}
 use Rattle.transcript.specs.declared.View.{View}
-use Rattle.transcript.specs.declared.View.the-variants.{Reports, Book}
+use Rattle.transcript.specs.declared.View.the-variants.{Reports, Book, Why}
+use Rattle.transcript.specs.WhyLines.{whyText}
 
 -- ---- one message ----
 
@@ -24,11 +26,17 @@ use Rattle.transcript.specs.declared.View.the-variants.{Reports, Book}
 unfoldable pub answered : Series → List ℕ → Handled
 answered s message = handled s message (replicate roomSize 0)
 
--- what is printed for message `number`, by its answer: a line for each report, or the line of its refusal; or, where the book is to be seen, a line for each
--- entry that rests in the series that is left. (The book is beyond document 01. A refusal leaves the series as it stood, and so the book)
-abbrev pub textOf : View → ℕ → Handled → List ℕ
-textOf Reports number h = answerText number (h .answer .refusal) (h .answer .count) (h .room)
-textOf Book number h = boardText number (entriesOf (h .answer .series .book))
+-- what is printed for message `number`, by the series that it was put to, what it unpacks to and its answer: a line for each report, or the line of its
+-- refusal; or, where the book is to be seen, a line for each entry that rests in the series that is left; or why each report says what it says. (The book is
+-- beyond document 01. A refusal leaves the series as it stood, and so the book)
+abbrev pub textOf : View → ℕ → Series → Option Event → Handled → List ℕ
+textOf Reports number s event h = answerText number (h .answer .refusal) (h .answer .count) (h .room)
+textOf Book number s event h = boardText number (entriesOf (h .answer .series .book))
+textOf Why number s event h = whyText number s event h
+
+-- the same of a message
+abbrev pub messageText : View → ℕ → Series → List ℕ → List ℕ
+messageText view number s message = textOf view number s (unpackOf messages message) (answered s message)
 
 -- ---- the messages of an input ----
 
@@ -49,7 +57,7 @@ messagesOf bytes = messagesIn (length bytes) bytes
 unfoldable pub linesFor : View → ℕ → Series → List (List ℕ) → List ℕ
 linesFor view number s [] = []
 linesFor view number s (message ∷ rest) =
-    textOf view number (answered s message) ++ linesFor view (number + 1) (answered s message .answer .series) rest
+    messageText view number s message ++ linesFor view (number + 1) (answered s message .answer .series) rest
 
 abbrev pub linesFrom : View → ℕ → Series → List ℕ → List ℕ
 linesFrom view number s bytes = linesFor view number s (messagesOf bytes)

@@ -1,35 +1,41 @@
 // From the bytes that are held of a session's input to the lines that they give. Reading and writing are left to the programs.
+mod why_lines;
+
 use board::board_lines;
 use handler::Answer;
-use handler::handle::handle_at;
+use handler::handle::handle_read;
 use lines::line::LONGEST_ANSWER;
 use lines::line::answer_lines;
 use packing::message::SIZE as MESSAGE;
+use packing::message::Unpacked;
+use packing::message::unpack_at;
 use packing::report::SIZE as REPORT;
 use packing::room::ROOM;
 use packing::setup::SIZE as SETUP;
 use series::Series;
 use series::open::open_series;
+use why_lines::why_lines;
 ghost use mathlib.Core.Path.{_≡_};
 ghost use lib.ListN.{length};
 ghost use lib.Seq.{sets};
 ghost use Prim.Native.Nat.{_+_, _≤_, _<_, min};
 ghost use Rattle.io.specs.Counts.{Counts};
-ghost use Rattle.packing.specs.Room.{roomSize, mostReports};
-ghost use Rattle.packing.specs.Message.{messageSize};
+ghost use Rattle.packing.specs.Room.{roomSize};
+ghost use Rattle.packing.specs.Message.{messageSize, eventIn};
 ghost use Rattle.handler.specs.Handle.{inRoom};
-ghost use Rattle.lines.specs.Lines.{linesOf};
 ghost use Rattle.lines.specs.Buffer.{TextPut, longestAnswer};
+ghost use Rattle.transcript.specs.WhyLines.{Answers};
 ghost use Rattle.transcript.specs.Transcript.{textOf};
 ghost use Rattle.transcript.specs.Held.{setupPrinted, begun, mostMessages, holdsNext, goesOn, Turned, heldTold, toldBy};
 
 // Numbers are given to fewer messages than this: no input is as long.
 pub const MOST_MESSAGES: u64 = 1000000000000000000;
 
-// What is told of each message: its reports, or the book that it leaves.
+// What is told of each message: its reports, the book that it leaves, or why each report says what it says.
 pub enum View {
     Reports,
     Book,
+    Why,
 }
 
 // What a setup gave: the refusal or the series, where the first message stands, and how much was printed.
@@ -102,25 +108,38 @@ fn place_behind(at: usize, long: usize) -> usize
     at + MESSAGE
 }
 
-// What a view tells of a message's answer, with its reports in the room: its lines from `at` on.
+// What a view tells of a message's answer, with its reports in the room: its lines from `used` on. The message was put to the series of
+// before, which `told` still has.
 fn tell_answer(
     view: View,
-    number: u64,
+    told: Told,
+    read: Unpacked,
     answer: Answer,
     room: &[u8],
     out: &mut [u8],
-    at: usize,
 ) -> usize
-    requires { ⌜ (linesOf (answer .refusal) (answer .count) ≤ mostReports) × (at + longestAnswer ≤ length (now out)) ⌝ }
-    ensures { λ r. ⌜ TextPut (now (out .entry)) at (textOf view number (inRoom answer (now (room .entry)))) (now (out .exit)) r ⌝ }
+    requires { ⌜ Answers (told .series) (eventIn read) answer × (told .used + longestAnswer ≤ length (now out)) ⌝ }
+    ensures { λ r.
+        ⌜ TextPut (now (out .entry)) (told .used) (textOf view (told .number) (told .series) (eventIn read) (inRoom answer (now (room .entry))))
+        (now (out .exit)) r ⌝ }
     ensures { λ r. ⌜ r ≤ length (now (out .exit)) ⌝ }
 {
     match view {
-        View::Reports => answer_lines(out, at, number, answer.refusal, answer.count, room),
+        View::Reports => {
+            answer_lines(
+                out,
+                told.used,
+                told.number,
+                answer.refusal,
+                answer.count,
+                room,
+            )
+        }
         View::Book => {
             let series = answer.series;
-            board_lines(out, at, number, series.book)
+            board_lines(out, told.used, told.number, series.book)
         }
+        View::Why => why_lines(out, told.used, told.number, told.series, read, answer, room),
     }
 }
 
@@ -130,8 +149,9 @@ fn tell_next(view: View, told: Told, held: &[u8], room: &mut [u8], out: &mut [u8
     requires { ⌜ (roomSize ≤ length (now room)) × (told .used + longestAnswer ≤ length (now out)) ⌝ }
     ensures { λ r. ⌜ Turned view (now (held .entry)) told (now (out .entry)) r (now (out .exit)) ⌝ }
 {
-    let answer = handle_at(told.series, held, told.at, room);
-    let used = tell_answer(view, told.number, answer, room, out, told.used);
+    let read = unpack_at(held, told.at);
+    let answer = handle_read(told.series, read, room);
+    let used = tell_answer(view, told, read, answer, room, out);
     let series = answer.series;
     Told {
         series,
