@@ -1,6 +1,6 @@
 // The session program: a setup and then messages on standard input, each message's reports on standard output, in decimal; or, where its
-// argument is `book`, the book that each leaves. What is printed for the bytes that are held is crate `transcript`'s; here they are read, and
-// the lines are written.
+// argument is `book`, the book that each leaves, or, where it is `why`, why each report says what it says. What is printed for the bytes that
+// are held is crate `transcript`'s; here they are read, and the lines are written.
 mod input;
 
 use input::fill;
@@ -109,12 +109,29 @@ enum Asked {
     Unknown,
 }
 
-// `book` asks for the book.
+// Whether a word is `book`.
+fn is_book(word: &[u8]) -> bool {
+    if word.len() != 4 {
+        return false;
+    }
+    (word[0] == b'b') & ((word[1] == b'o') & ((word[2] == b'o') & (word[3] == b'k')))
+}
+
+// Whether a word is `why`.
+fn is_why(word: &[u8]) -> bool {
+    if word.len() != 3 {
+        return false;
+    }
+    (word[0] == b'w') & ((word[1] == b'h') & (word[2] == b'y'))
+}
+
+// `book` asks for the book, and `why` for the reasons.
 fn asked_by(word: &[u8]) -> Asked {
-    if word.len() == 4 {
-        if (word[0] == b'b') & ((word[1] == b'o') & ((word[2] == b'o') & (word[3] == b'k'))) {
-            return Asked::For(View::Book);
-        }
+    if is_book(word) {
+        return Asked::For(View::Book);
+    }
+    if is_why(word) {
+        return Asked::For(View::Why);
     }
     Asked::Unknown
 }
@@ -133,7 +150,7 @@ fn main() {
     let Asked::For(view) = view_asked() else {
         io::write_all(
             STDERR_FILENO,
-            b"session: what can be asked for is the book, by `book`, and the reports, by nothing\n",
+            b"session: what can be asked for is the book, by `book`, the reasons, by `why`, and the reports, by nothing\n",
         );
         return;
     };

@@ -1,6 +1,6 @@
 // Plays every lesson of a bundle, one after the other, and prints under each one's name what the session program prints for it. The bundle
-// is what tests/bundle.py writes: of each lesson the length of its name and the name, a byte for what is to be seen (1 for the book, else the
-// reports), the length of its bytes and the bytes. A length is four bytes, most significant first.
+// is what tests/bundle.py writes: of each lesson the length of its name and the name, a byte for what is to be seen (1 for the book, 2 for the
+// reasons, else the reports), the length of its bytes and the bytes. A length is four bytes, most significant first.
 use libc::STDIN_FILENO;
 use libc::STDOUT_FILENO;
 use lines::line::LONGEST_ANSWER;
@@ -75,14 +75,23 @@ fn print_name(name: &[u8]) {
     io::write_all(STDOUT_FILENO, b"\n");
 }
 
+// What a byte asks to see.
+fn view_of(byte: u8) -> View {
+    if byte == 1 {
+        return View::Book;
+    }
+    if byte == 2 {
+        return View::Why;
+    }
+    View::Reports
+}
+
 // What the byte at a place asks to see.
 fn view_at(bundle: &[u8], at: usize) -> View
     requires { ⌜ at ≤ length (now bundle) ⌝ }
 {
     if at < bundle.len() {
-        if bundle[at] == 1 {
-            return View::Book;
-        }
+        return view_of(bundle[at]);
     }
     View::Reports
 }
