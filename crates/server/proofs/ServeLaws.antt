@@ -33,13 +33,20 @@ use Rattle.server.specs.Serve.{SetUp, setUp, served, unserved, holding, 
 
 -- ---- what an unpacked series tells ----
 
-pub holds-none : (o : Option Series) → unpacked o .ok ≡ false → o ≡ none
+holds-none : (o : Option Series) → unpacked o .ok ≡ false → o ≡ none
 holds-none none h = refl
 holds-none (some s) h = absurd (let z : _≡_ {A = ℕ} 0 1 = cc in omega arith)
 
-pub holds-some : (o : Option Series) → unpacked o .ok ≡ true → o ≡ some (unpacked o .series)
+holds-some : (o : Option Series) → unpacked o .ok ≡ true → o ≡ some (unpacked o .series)
 holds-some none h = absurd (let z : _≡_ {A = ℕ} 0 1 = cc in omega arith)
 holds-some (some s) h = refl
+
+module _ (o : Option Series) (u : Unpacked) (is : u ≡ unpacked o) where
+  pub told-none : u .ok ≡ false → o ≡ none
+  told-none h = holds-none o (sym (ap (λ (x : Unpacked). x .ok) is) ∙ h)
+
+  pub told-some : u .ok ≡ true → o ≡ some (u .series)
+  told-some h = holds-some o (sym (ap (λ (x : Unpacked). x .ok) is) ∙ h) ∙ ap some (sym (ap (λ (x : Unpacked). x .series) is))
 
 -- a buffer that holds a series has its length
 pub state-long : (state : List ℕ) (s : Series) → unpackSeries state ≡ some s → length state ≡ stateSize
@@ -76,14 +83,11 @@ module _ (state : List ℕ) (event : Option Event) (room : List ℕ) where
     inside = ap (λ (b : Bool). cond b (unserved 10 state room) (serveIn state event room (unpackSeries state))) (le-ltb (length room) roomSize space)
 
     pub serve-none : u .ok ≡ false → unserved 11 state room ≡ serveAs state event room
-    serve-none h =
-        sym (inside ∙ ap (serveIn state event room) (holds-none (unpackSeries state) (sym (ap (λ (x : Unpacked). x .ok) is) ∙ h)))
+    serve-none h = sym (inside ∙ ap (serveIn state event room) (told-none (unpackSeries state) u is h))
 
     module _ (ok : u .ok ≡ true) (r : Answer) (after : List ℕ) (answer : inRoom r after ≡ handledAs (u .series) event room) where
       held : unpackSeries state ≡ some (u .series)
-      held =
-          holds-some (unpackSeries state) (sym (ap (λ (x : Unpacked). x .ok) is) ∙ ok)
-          ∙ ap some (sym (ap (λ (x : Unpacked). x .series) is))
+      held = told-some (unpackSeries state) u is ok
 
       again : packedAgain state (inRoom r after) ≡ serveAs state event room
       again = ap (packedAgain state) answer ∙ sym (inside ∙ ap (serveIn state event room) held)
