@@ -1,7 +1,8 @@
 /* Damaged state buffers. Plays the lesson on standard input; every so often it damages the state at each byte in turn, in several ways, and
- * asks the handler for something harmless. The answer is refusal 11 with every byte as it was, or 0 with a state that is again accepted. It also
- * hands over buffers of other lengths, and too small a room. Each lent buffer lies between two pages that may not be touched, and ends where
- * the second begins. Exit status 1 at the first answer that is none of these. */
+ * asks the handler for something harmless, and before that why its first report would say what it says. The answer of both is refusal 11 with
+ * every byte as it was, or 0 with a state that is again accepted and no reason to give. It also hands over buffers of other lengths, and too
+ * small a room. Each lent buffer lies between two pages that may not be touched, and ends where the second begins. Exit status 1 at the first
+ * answer that is none of these. */
 #include "fenced.h"
 #include "waxglimmer.h"
 
@@ -10,6 +11,7 @@
 #define MOST (2 * WAXGLIMMER_STATE)
 
 static uint8_t *room, *small, *lent_end, *underlying; /* kind 10: underlying price 0, which moves nothing of itself */
+static const uint8_t blank[WAXGLIMMER_ROOM];
 static unsigned long tried, refused, sound;
 
 static void fail(const char *what, size_t at, unsigned value) {
@@ -17,13 +19,31 @@ static void fail(const char *what, size_t at, unsigned value) {
   exit(1);
 }
 
+/* what why answers of a state: it is noted, for no reason, or refused with the room as it was */
+static uint32_t ask_why(const uint8_t *lent, size_t length, uint8_t *lent_room, size_t room_length) {
+  uint32_t told[3] = {7, 7, 7};
+  memset(lent_room, 0, room_length);
+  const uint32_t answer =
+      waxglimmer_why(lent, length, underlying, WAXGLIMMER_MESSAGE, 0, lent_room, room_length, &told[0], &told[1], &told[2]);
+  if (told[0] != 0 || told[1] != 0 || told[2] != 0)
+    fail("a reason for what is only noted", length, answer);
+  if (answer != 0 && memcmp(lent_room, blank, room_length) != 0)
+    fail("a refusal of why wrote the room", length, answer);
+  return answer;
+}
+
 /* what the handler makes of a state that may be damaged */
 static void try_state(const uint8_t *state, size_t at, unsigned value) {
   uint8_t *lent = lent_end - WAXGLIMMER_STATE;
   size_t count = 7;
   memcpy(lent, state, WAXGLIMMER_STATE);
+  const uint32_t asked = ask_why(lent, WAXGLIMMER_STATE, room, WAXGLIMMER_ROOM);
+  if (memcmp(lent, state, WAXGLIMMER_STATE) != 0)
+    fail("why wrote the state", at, value);
   uint32_t answer = waxglimmer_handle(lent, WAXGLIMMER_STATE, underlying, WAXGLIMMER_MESSAGE, room, WAXGLIMMER_ROOM, &count);
   tried++;
+  if (asked != answer)
+    fail("why answers otherwise", at, value);
   if (answer == 11) {
     refused++;
     if (memcmp(lent, state, WAXGLIMMER_STATE) != 0 || count != 0)
@@ -59,13 +79,15 @@ static void lengths(const uint8_t *state) {
     memset(lent, 0, length);
     memcpy(lent, state, length < WAXGLIMMER_STATE ? length : WAXGLIMMER_STATE);
     count = 7;
-    if (waxglimmer_handle(lent, length, underlying, WAXGLIMMER_MESSAGE, room, WAXGLIMMER_ROOM, &count) != 11 || count != 0)
+    if (waxglimmer_handle(lent, length, underlying, WAXGLIMMER_MESSAGE, room, WAXGLIMMER_ROOM, &count) != 11 || count != 0 ||
+        ask_why(lent, length, room, WAXGLIMMER_ROOM) != 11)
       fail("a buffer of another length was taken", length, 0);
   }
   uint8_t *lent = lent_end - WAXGLIMMER_STATE;
   count = 7;
   memcpy(lent, state, WAXGLIMMER_STATE);
-  if (waxglimmer_handle(lent, WAXGLIMMER_STATE, underlying, WAXGLIMMER_MESSAGE, small, WAXGLIMMER_ROOM - 1, &count) != 10 || count != 0)
+  if (waxglimmer_handle(lent, WAXGLIMMER_STATE, underlying, WAXGLIMMER_MESSAGE, small, WAXGLIMMER_ROOM - 1, &count) != 10 || count != 0 ||
+      ask_why(lent, WAXGLIMMER_STATE, small, WAXGLIMMER_ROOM - 1) != 10)
     fail("a room too small was taken", WAXGLIMMER_ROOM - 1, 0);
   if (memcmp(lent, state, WAXGLIMMER_STATE) != 0)
     fail("refusal 10 wrote", 0, 0);

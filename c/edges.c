@@ -1,11 +1,9 @@
 /* What the header says of lengths, of places in a run, of the order of refusals and of bytes left alone, tried at its edges; no lesson is
  * needed. Each lent buffer ends where a page begins that may not be touched. Exit status 1 at the first that is not so. */
 #include "fenced.h"
-#include "waxglimmer.h"
+#include "lending.h"
 
-#include <string.h>
-
-enum { BLANK = 165, MOST = 40000 };
+enum { MOST = 40000 };
 
 /* where each kind of buffer ends */
 static uint8_t *setup_end, *message_end, *state_end, *room_end;
@@ -17,27 +15,6 @@ static const uint8_t open_it[WAXGLIMMER_MESSAGE] = {0xb0, 0, 0, 0, 0, 4}; /* pha
 static void fail(const char *what, unsigned long a, unsigned long b) {
   printf("edges: %s, %lu, %lu\n", what, a, b);
   exit(1);
-}
-
-static int blank(const uint8_t *bytes, size_t length) {
-  for (size_t i = 0; i < length; i++)
-    if (bytes[i] != BLANK)
-      return 0;
-  return 1;
-}
-
-/* `length` bytes before `end`: those given, then zeros */
-static uint8_t *lend(uint8_t *end, const uint8_t *bytes, size_t given, size_t length) {
-  memset(end - length, 0, length);
-  memcpy(end - length, bytes, given < length ? given : length);
-  return end - length;
-}
-
-static void pack(uint8_t *bytes, uint64_t kind, uint64_t party, uint64_t side, uint64_t price, uint64_t quantity) {
-  const uint64_t high = kind << 60 | party << 53 | side << 52 | price << 35 | quantity << 18;
-  memset(bytes, 0, WAXGLIMMER_MESSAGE);
-  for (unsigned i = 0; i < 8; i++)
-    bytes[i] = (uint8_t)(high >> (56 - 8 * i));
 }
 
 /* ---- setups ---- */
@@ -96,6 +73,7 @@ static void orders(void) {
     const size_t at = alone ? (size_t)-1 : 0;
     try_handle(zero, WAXGLIMMER_STATE, message_end, 0, at, WAXGLIMMER_ROOM - 1, 10);
     try_handle(zero, WAXGLIMMER_STATE, message_end, 0, at, 0, 10);
+    try_handle(sound, WAXGLIMMER_STATE - 1, right, WAXGLIMMER_MESSAGE, at, WAXGLIMMER_ROOM - 1, 10);
     try_handle(zero, WAXGLIMMER_STATE, message_end, 0, at, WAXGLIMMER_ROOM, 11);
     try_handle(sound, WAXGLIMMER_STATE - 1, right, WAXGLIMMER_MESSAGE, at, WAXGLIMMER_ROOM, 11);
     try_handle(sound, WAXGLIMMER_STATE + 1, right, WAXGLIMMER_MESSAGE, at, WAXGLIMMER_ROOM, 11);

@@ -1,7 +1,7 @@
 /* Waxglimmer for C: one option series, held in a buffer that the caller owns.
  *
  * Every function answers a number: 0, or a refusal. What each answers, and what every lent byte holds afterwards, is proved for all inputs
- * (crates/server). A refusal leaves state and room as they stood; *count, *display and *working are then 0.
+ * (crates/server). A refusal leaves state and room as they stood; *count, *display, *working, *rule, *first and *second are then 0.
  *
  * Refusals, in the order in which they are tested:
  *
@@ -16,6 +16,7 @@
  *   7  a quote or order, and 64 entries rest, not counting the quote that it replaces
  *   9  a quote or order, and entry number 1,000,000 has been given
  *   8  a cancellation: no such entry of that party, or no such quote
+ *  12  why: the message has no report at that place
  *
  * Bytes: fields in bits, from the first byte's most significant bit on. What a kind does not name is 0. Prices are cents, multiples of M.
  *
@@ -35,23 +36,37 @@
  *               6 cancelled: reason, side, party, entry, price (limit), quantity cancelled
  *               docs/TEACHER.md says what each reason, 20 to 31, means
  *
+ * Why: the reason's number as the rule, and the two figures that its test compared, the entry's own and what that is held against; what
+ * holds of them, for a buy (for a sell). NBO is the lower of the away offer and the lowest displayed sell, NBB its mirror.
+ *
+ *  20  limit, away offer (away bid)                                             first >= second (<=)
+ *  21  limit, the best undisplayed contra working price                          first >= second (<=)
+ *  22  from the limit to the display it would get, K times M; both in cents      first > second
+ *  23  the display it would get, M (100,000)                                     first < second (>)
+ *  24  NBO at most 100: bid, NBO + 100; above: twice (bid - NBO), NBO
+ *      (twice (NBB - offer), NBB)                                                first >= second
+ *  25  bid, underlying                                                           first >= second
+ *  26  bid, strike                                                               first >= second
+ *  27 to 31 compare no prices: 0, 0
+ *
  * A series is its state buffer and nothing else: it can be copied, moved, stored and gone on with elsewhere. Its bytes have no version and no
  * checksum, and do not count the messages: keep these beside it. Refusal 11 finds bytes that no series can have, not one series damaged into
  * another. To try a stored state without a message, hand over one of length 0: the answer is 11, or 1 for a sound series, and nothing changes.
  *
  * The archive: `rt staticlib server`, in the repository's first folder, proves it and writes target/staticlib/libserver.a, for x86-64 Linux;
  * `cc -o example c/example.c target/staticlib/libserver.a` links it, and a shared library can take it in. It allocates nothing, keeps nothing
- * between calls, does no input or output, and calls nothing but memcpy. It is compiled without sanitizers: a memory sanitizer does not see
- * what it writes, so fill the buffers first if you use one.
+ * between calls, does no input or output, and calls nothing but memcpy, memmove and memset. It is compiled without sanitizers: a memory
+ * sanitizer does not see what it writes, so fill the buffers first if you use one.
  *
  * What no header can promise is the caller's to see to:
  *   - a length beside a pointer is the number of bytes that may be read (and, of state and room, written) from there; a wrong length is
- *     undefined, and so is a null or dangling pointer, even with length 0; byte buffers may stand at any address, count, display and
- *     working where their types may;
- *   - two buffers that one call is lent do not overlap, if the call writes one of them: state, room, count, display and working are
- *     written, setup, message and run are only read. No buffer is kept: each is the caller's again when the call is over;
+ *     undefined, and so is a null or dangling pointer, even with length 0; byte buffers may stand at any address, count, display, working,
+ *     rule, first and second where their types may;
+ *   - two buffers that one call is lent do not overlap, if the call writes one of them: state, room, count, display, working, rule, first
+ *     and second are written, setup, message and run are only read, and so is the state where the call takes it as const. No buffer is
+ *     kept: each is the caller's again when the call is over;
  *   - no other thread uses a lent buffer during the call. Calls on different buffers may run at the same time.
- * What count, display and working held before, a state before its setup, and a room, does not matter.
+ * What count, display, working, rule, first and second held before, a state before its setup, and a room, does not matter.
  */
 #ifndef WAXGLIMMER_H
 #define WAXGLIMMER_H
@@ -69,7 +84,8 @@ extern "C" {
 #define WAXGLIMMER_REPORTS 2280 /* the most reports that one message gives */
 #define WAXGLIMMER_ROOM 31920  /* the least bytes of a report room: 2,280 reports of 14 */
 #define WAXGLIMMER_STATE 1564  /* bytes of a series; crates/series_buffer/src/lib.rt has the layout */
-#define WAXGLIMMER_STACK 65536 /* bytes of stack with which a thread can make every call: tried by c/test.sh, not proved */
+#define WAXGLIMMER_STACK 98304 /* bytes of stack with which a thread can make every call: tried by c/test.sh, not proved */
+#define WAXGLIMMER_HANDLING_STACK 65536 /* the same of every call but waxglimmer_why and waxglimmer_why_at, which keep a room of their own */
 
 /* The aims of one quote. kind 3 (MMALO) or 4 (MMRP); side 0 buy, 1 sell; limit; away and contra price, 0 for none; m 1, 5 or 10.
  * Answers 0, 1 (another kind, side or m) or 3 (an illegal price). Both aims are written: 0 on a refusal. An aim may fall one m outside the
@@ -98,6 +114,17 @@ uint32_t waxglimmer_handle(uint8_t *state, size_t state_length, const uint8_t *m
                            size_t room_length, size_t *count);
 uint32_t waxglimmer_handle_at(uint8_t *state, size_t state_length, const uint8_t *run, size_t run_length, size_t at, uint8_t *room,
                               size_t room_length, size_t *count);
+
+/* Why does a report say what it says? `place` is its place, from 0 on, among those that the message (or the one from byte `at` of a run on)
+ * would give a series in this state: the state before the message, which is only read. On 0, *rule, *first and *second are the rule's number
+ * and its two figures, or three zeros where there is no reason to give: the report is neither a rejection nor a cancellation. The front of the
+ * room then holds the message's reports, as waxglimmer_handle writes them; no byte beyond them is written. The refusals are those of
+ * waxglimmer_handle for the same message, and behind all of them 12, for a place at or beyond the count. On any of them the room is as it was
+ * and *rule, *first and *second are 0. */
+uint32_t waxglimmer_why(const uint8_t *state, size_t state_length, const uint8_t *message, size_t message_length, size_t place, uint8_t *room,
+                        size_t room_length, uint32_t *rule, uint32_t *first, uint32_t *second);
+uint32_t waxglimmer_why_at(const uint8_t *state, size_t state_length, const uint8_t *run, size_t run_length, size_t at, size_t place,
+                           uint8_t *room, size_t room_length, uint32_t *rule, uint32_t *first, uint32_t *second);
 
 #ifdef __cplusplus
 }
