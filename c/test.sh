@@ -85,6 +85,7 @@ for right in tests/*/*.why ${MORE:+"$MORE"/*.why}; do
     failed=$((failed + 1))
   fi
 done
+[ "$explained" -gt 0 ] || { echo 'c/test.sh: no reasons'; exit 1; }
 
 damaged=0
 for lesson in tests/lessons/*.bin; do
