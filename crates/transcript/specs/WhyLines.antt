@@ -13,10 +13,11 @@ use Rattle.packing.specs.Room.{readBack, mostReports}
 use Rattle.series.specs.declared.Series.{Series}
 use Rattle.handler.specs.declared.Answer.{Answer}
 use Rattle.handler.specs.Asked.{askOf}
+use Rattle.handler.specs.Acts.{Accepted}
 use Rattle.handler.specs.Handle.{Handled}
 use Rattle.why.specs.declared.Why.{Why}
 use Rattle.why.specs.declared.Why.the-variants.{Given, NoReason, Refused}
-use Rattle.why.specs.Why.{whyOf, Accepts}
+use Rattle.why.specs.Why.{whyOf}
 use Rattle.lines.specs.Decimal.{decimal}
 use Rattle.lines.specs.Lines.{space, lineEnd, fieldLine, refusalLine}
 
@@ -50,7 +51,7 @@ whyText number s event h =
 -- nothing refuses what a message unpacks to
 abbrev pub Passes : Series → Option Event → Type 0
 Passes s none = ⊥
-Passes s (some e) = Accepts s (askOf e)
+Passes s (some e) = Accepted s (askOf e)
 
 -- what is known of its answer: where that is no refusal nothing refuses it, and there are no more reports than a room has places
 pub record Answers (s : Series) (event : Option Event) (r : Answer) : Type 0 where

@@ -19,7 +19,7 @@ ghost use Rattle.packing.specs.Message.{eventIn};
 ghost use Rattle.packing.specs.Room.{readBack, mostReports};
 ghost use Rattle.handler.specs.Asked.{askOf};
 ghost use Rattle.handler.specs.Handle.{inRoom};
-ghost use Rattle.why.specs.Why.{Accepts};
+ghost use Rattle.handler.specs.Acts.{Accepted};
 ghost use Rattle.lines.specs.Lines.{fieldLine};
 ghost use Rattle.lines.specs.Buffer.{TextPut, longestLine, longestAnswer};
 ghost use Rattle.transcript.specs.WhyLines.{noneLine, whyLine, whyLines, whyText, Answers};
@@ -70,7 +70,7 @@ fn put_whys(
     count: usize,
     room: &[u8],
 ) -> usize
-    requires { ⌜ Accepts series (askOf event) × (count ≤ mostReports) × (at + longestLine * count ≤ length (now out)) ⌝ }
+    requires { ⌜ Accepted series (askOf event) × (count ≤ mostReports) × (at + longestLine * count ≤ length (now out)) ⌝ }
     ensures { λ r.
         ⌜ TextPut (now (out .entry)) at (whyLines number series (some event) 0 (readBack count (now (room .entry)))) (now (out .exit)) r ⌝ }
     ensures { λ r. ⌜ r ≤ length (now (out .exit)) ⌝ }
