@@ -1,4 +1,5 @@
-"""The price rules, from the words of document 01 alone: once for a buy and once for a sell, so that a slip in one shows against the other.
+"""The price rules, from the words of document 01 alone, and the figures that they compare, from those of document 02's first request: once for a buy and once
+for a sell, so that a slip in one shows against the other.
 
 price_vectors.py puts its questions to `ASK`, by name; a rule answers None for a question outside what it is for.
 """
@@ -116,13 +117,13 @@ def offer_protection(nbb, offer):
     return 0
 
 
-# ---- document 01, "Arrival": what is left posts, unless ----
+# ---- document 01, "Arrival": what is left posts, unless. `hidden_sell` is the lowest price at which an undisplayed sell works ----
 
-def buy_stop(m, k, kind, limit, away_offer, hidden, display):
+def buy_stop(m, k, kind, limit, away_offer, hidden_sell, display):
     slides = kind in (MMALO, MMRP)
     if not slides and away_offer != NONE and limit >= away_offer:
         return 20
-    if hidden:
+    if kind == MMLO and hidden_sell != NONE and hidden_sell <= limit:
         return 21
     if slides and display < m:
         return 23
@@ -131,17 +132,70 @@ def buy_stop(m, k, kind, limit, away_offer, hidden, display):
     return 0
 
 
-def sell_stop(m, k, kind, limit, away_bid, hidden, display):
+def sell_stop(m, k, kind, limit, away_bid, hidden_buy, display):
     slides = kind in (MMALO, MMRP)
     if not slides and away_bid != NONE and limit <= away_bid:
         return 20
-    if hidden:
+    if kind == MMLO and hidden_buy != NONE and hidden_buy >= limit:
         return 21
     if slides and display > 100000:
         return 23
     if slides and display - limit > k * m:
         return 22
     return 0
+
+
+# ---- document 02, 1: the two figures that a rule compares, the entry's own first, and when it holds of them ----
+
+def buy_stop_figures(rule, m, k, limit, away_offer, hidden_sell, display):
+    if rule == 20:
+        return limit, away_offer
+    if rule == 21:
+        return limit, hidden_sell
+    if rule == 22:
+        return limit - display, k * m
+    if rule == 23:
+        return display, m
+    return 0, 0
+
+
+def sell_stop_figures(rule, m, k, limit, away_bid, hidden_buy, display):
+    if rule == 20:
+        return limit, away_bid
+    if rule == 21:
+        return limit, hidden_buy
+    if rule == 22:
+        return display - limit, k * m
+    if rule == 23:
+        return display, 100000
+    return 0, 0
+
+
+def bid_figures(rule, strike, underlying, nbo, bid):
+    if rule == 24:
+        return (bid, nbo + 100) if nbo <= 100 else (2 * (bid - nbo), nbo)
+    if rule == 25:
+        return bid, underlying
+    if rule == 26:
+        return bid, strike
+    return 0, 0
+
+
+def offer_figures(rule, nbb, offer):
+    if rule == 24:
+        return 2 * (nbb - offer), nbb
+    return 0, 0
+
+
+def compared(rule, side, first, second):
+    """Whether a rule holds of its two figures."""
+    if rule in (20, 21):
+        return first >= second if side == BUY else first <= second
+    if rule == 22:
+        return first > second
+    if rule == 23:
+        return first < second if side == BUY else first > second
+    return first >= second
 
 
 # ---- document 01, "Reports": the request for aims ----
@@ -156,7 +210,7 @@ def request(kind, side, limit, away, contra, m):
     return (0, *sell_aims(m, kind, limit, away, contra))
 
 
-# ---- the ten kinds of question ----
+# ---- the twelve kinds of question ----
 
 def answer_aims(kind, side, limit, away, contra, m):
     return request(kind, side, limit, away, contra, m)
@@ -216,6 +270,18 @@ def answer_away(side, bid, offer):
     return (offer if side == BUY else bid,)
 
 
+def answer_stop_figures(rule, m, k, side, limit, away, hidden, display):
+    if m not in MPVS or k > 100:
+        return None
+    return (buy_stop_figures if side == BUY else sell_stop_figures)(rule, m, k, limit, away, hidden, display)
+
+
+def answer_bar_figures(rule, put, exempt, strike, underlying, side, best, limit):
+    if best > 100000 or limit > 100000:
+        return None
+    return bid_figures(rule, strike, underlying, best, limit) if side == BUY else offer_figures(rule, best, limit)
+
+
 ASK = {
     "aims": (1, answer_aims),
     "protection": (2, answer_protection),
@@ -227,4 +293,6 @@ ASK = {
     "slide": (8, answer_slide),
     "best": (9, answer_best),
     "away": (10, answer_away),
+    "stop_figures": (11, answer_stop_figures),
+    "bar_figures": (12, answer_bar_figures),
 }

@@ -1,41 +1,45 @@
 #!/usr/bin/env python3
-"""The table of questions about prices, and the answers that document 01 gives.
+"""The table of questions about prices, and the answers that documents 01 and 02 give.
 
     python3 tests/price_vectors.py            writes crates/test_prices/stdin and crates/test_prices/stdout
     python3 tests/price_vectors.py --check    says whether the two files are what it would write
     python3 tests/price_vectors.py --list     prints each question and its answer, as text
 
 Run it from anywhere. It needs nothing but Python 3, and it runs no program of this repository: the answers are worked out in price_rules.py, from the words of
-document 01, once for a buy and once for a sell. The gate runs the crate test_prices on the one file and compares what it prints with the other.
+document 01, and for the figures of a rule of document 02, 1, once for a buy and once for a sell. The gate runs the crate test_prices on the one file and compares
+what it prints with the other.
 
 A question is nine numbers of four bytes, most significant first: what is asked, and eight figures, zero where there are fewer.
 Its answer is one line. `-` stands for a question outside what the rule asked is for.
 
-    1 aims        kind side limit away contra M                           refusal, display aim, working aim
-    2 protection  put exempt strike underlying side best limit            25, 26, 24 or 0
-    3 stop        M K kind side limit away hidden display                 20, 21, 23, 22 or 0; hidden: undisplayed interest in the way of an MMLO
-    4 resting     side display aim-display aim-working                    display, working price
-    5 eased       side away display working                               working price
-    6 legal       M price                                                 1 or 0
-    7 stirring    M kind side limit away contra display working           1 or 0: marketable, or not at its resting prices
-    8 slide       M side limit display working                            1 or 0: sound prices of a sliding quote
-    9 best        side away shown                                         NBO for a bid, NBB for an offer; shown: the best displayed contra price
-    10 away       side bid offer                                          the away price that A stands for: the offer for a buy, the bid for a sell
+    1 aims           kind side limit away contra M                      refusal, display aim, working aim
+    2 protection     put exempt strike underlying side best limit       25, 26, 24 or 0
+    3 stop           M K kind side limit away hidden display            20, 21, 23, 22 or 0; hidden: the best undisplayed contra price
+    4 resting        side display aim-display aim-working               display, working price
+    5 eased          side away display working                          working price
+    6 legal          M price                                            1 or 0
+    7 stirring       M kind side limit away contra display working      1 or 0: marketable, or not at its resting prices
+    8 slide          M side limit display working                       1 or 0: sound prices of a sliding quote
+    9 best           side away shown                                    NBO for a bid, NBB for an offer; shown: the best displayed contra price
+    10 away          side bid offer                                     the away price that A stands for: the offer for a buy, the bid for a sell
+    11 stop_figures  rule M K side limit away hidden display            the two figures that 20, 21, 22 or 23 compares; 0 0 for 27 to 31
+    12 bar_figures   rule put exempt strike underlying side best limit  the two figures that 24, 25 or 26 compares; 0 0 for 27 to 31
 """
 import os
 import random
 import struct
 import sys
 
-from price_rules import ASK, BUY, DARK, DISPLAYED, MMALO, MMLO, MMRP, MOST, MPVS, NONE, PLAIN, SELL, buy_aims, request, sell_aims
+from price_rules import ASK, BUY, DARK, DISPLAYED, MMALO, MMLO, MMRP, MOST, MPVS, NONE, PLAIN, SELL, buy_aims, compared, request, sell_aims
 
 TABLE = []
 
 
 def add(what, *figures, says=None):
-    """One question. `says` is the answer written out by hand, as document 01 states it: the model must give the same."""
+    """One question. `says` is the answer written out by hand, as the document states it: the model must give the same."""
     number, rule = ASK[what]
     got = rule(*figures)
+    assert got is None or min(got) >= 0, f"{what} {figures}: no document says a figure below 0"
     line = "-" if got is None else " ".join(str(x) for x in got)
     assert says is None or line == says, f"{what} {figures}: expected {says}, the model says {line}"
     TABLE.append((what, number, figures, line))
@@ -64,31 +68,39 @@ def class_examples():
     add("stop", 1, 3, MMALO, BUY, 101, 100, 0, 98, says="0")
     add_both(MMALO, 102, 100, 99, 1, says="0 98 98")
     add("stop", 1, 3, MMALO, BUY, 102, 100, 0, 98, says="22")
+    add("stop_figures", 22, 1, 3, BUY, 102, 100, 0, 98, says="4 3")
     # c, d. One contract at 99, which trades: MMRP buy at 102 rests 99/100; at 103 the rest is cancelled 22.
     add_both(MMRP, 102, 100, 99, 1, says="0 99 100")
     add_both(MMRP, 102, 100, NONE, 1, says="0 99 100")
     add("stop", 1, 3, MMRP, BUY, 102, 100, 0, 99, says="0")
     add_both(MMRP, 103, 100, NONE, 1, says="0 99 100")
     add("stop", 1, 3, MMRP, BUY, 103, 100, 0, 99, says="22")
+    add("stop_figures", 22, 1, 3, BUY, 103, 100, 0, 99, says="4 3")
     # e. Book 198 x 222, away 197 x 223: MMALO buy 225 rests 221/221.
     add_both(MMALO, 225, 223, 222, 1, says="0 221 221")
     add("stop", 1, 10, MMALO, BUY, 225, 223, 0, 221, says="0")
     # f, g. A 220, empty book: plain buy 220 rejected 20; 219 rests.
     add("stop", 1, 10, PLAIN, BUY, 220, 220, 0, 220, says="20")
+    add("stop_figures", 20, 1, 10, BUY, 220, 220, 0, 220, says="220 220")
     add("stop", 1, 10, PLAIN, BUY, 219, 220, 0, 219, says="0")
     # h. A 1: MMRP buy 1 rejected 23.
     add_both(MMRP, 1, 1, NONE, 1, says="0 0 1")
     add("stop", 1, 10, MMRP, BUY, 1, 1, 0, 0, says="23")
+    add("stop_figures", 23, 1, 10, BUY, 1, 1, 0, 0, says="0 1")
     # i. NBO 100: bid 200 rejected 24, 199 passes. j. NBO 101: 152 rejected, 151 passes.
     add("protection", 0, 1, 200, NONE, BUY, 100, 200, says="24")
+    add("bar_figures", 24, 0, 1, 200, NONE, BUY, 100, 200, says="200 200")
     add("protection", 0, 1, 200, NONE, BUY, 100, 199, says="0")
     add("protection", 0, 1, 200, NONE, BUY, 101, 152, says="24")
+    add("bar_figures", 24, 0, 1, 200, NONE, BUY, 101, 152, says="102 101")
     add("protection", 0, 1, 200, NONE, BUY, 101, 151, says="0")
     # k. Put, strike 200, not exempt: bid 200 rejected 26, 199 passes.
     add("protection", 1, 0, 200, NONE, BUY, NONE, 200, says="26")
+    add("bar_figures", 26, 1, 0, 200, NONE, BUY, NONE, 200, says="200 200")
     add("protection", 1, 0, 200, NONE, BUY, NONE, 199, says="0")
     # l. The dark sell at 221 is in the way of what is left of MMLO buy 222: rest cancelled 21.
-    add("stop", 1, 10, MMLO, BUY, 222, NONE, 1, 222, says="21")
+    add("stop", 1, 10, MMLO, BUY, 222, NONE, 221, 222, says="21")
+    add("stop_figures", 21, 1, 10, BUY, 222, NONE, 221, 222, says="222 221")
     worked_session()
 
 
@@ -209,10 +221,15 @@ def stops():
                 for display in (100000 - m, 100000, 100000 + m):
                     add("stop", m, k, kind, SELL, 100000 - m, NONE, 0, display)
     # 20 before 21; 21 of itself
-    add("stop", 1, 10, MMLO, BUY, 500, 500, 1, 500, says="20")
-    add("stop", 1, 10, MMLO, BUY, 500, 501, 1, 500, says="21")
-    add("stop", 1, 10, MMLO, SELL, 500, 500, 1, 500, says="20")
-    add("stop", 1, 10, MMLO, SELL, 500, 499, 1, 500, says="21")
+    add("stop", 1, 10, MMLO, BUY, 500, 500, 500, 500, says="20")
+    add("stop", 1, 10, MMLO, BUY, 500, 501, 500, 500, says="21")
+    add("stop", 1, 10, MMLO, SELL, 500, 500, 500, 500, says="20")
+    add("stop", 1, 10, MMLO, SELL, 500, 499, 500, 500, says="21")
+    # 21 at its edge, and of no other kind; no undisplayed price is no price of 0
+    for kind in (PLAIN, MMLO, MMALO, MMRP, DISPLAYED, DARK):
+        for side in (BUY, SELL):
+            for hidden in (NONE, 1, 499, 500, 501, 100000):
+                add("stop", 1, 10, kind, side, 500, NONE, hidden, 500)
     # outside what the rule is for
     add("stop", 1, 101, MMALO, BUY, 500, 500, 0, 499, says="-")
     add("stop", 2, 10, MMALO, BUY, 500, 500, 0, 499, says="-")
@@ -246,6 +263,75 @@ def slides():
     add("slide", 1, SELL, 1, 1, 0, says="0")
 
 
+# ---- the two figures of a rule ----
+
+def figures_at_edges():
+    """Each rule's figures at its edge and about it: it must hold of them just where document 01 says that it does."""
+    # 20 and 21, of an MMLO
+    for side in (BUY, SELL):
+        for limit in (1, 499, 500, 501, 100000):
+            agrees("stop", 20, 1, 10, MMLO, side, limit, 500, NONE, limit)
+            agrees("stop", 21, 1, 10, MMLO, side, limit, NONE, 500, limit)
+    # 22 in cents, whatever the MPV; 23
+    for m in MPVS:
+        for kind in (MMALO, MMRP):
+            for k in (0, 3, 100):
+                for steps in sorted({0, k, k + 1}):
+                    agrees("stop", 22, m, k, kind, BUY, 5000, NONE, NONE, 5000 - steps * m)
+                    agrees("stop", 22, m, k, kind, SELL, 5000, NONE, NONE, 5000 + steps * m)
+            for steps in (0, 1, 2):
+                agrees("stop", 23, m, 100, kind, BUY, 2 * m, NONE, NONE, steps * m)
+                agrees("stop", 23, m, 100, kind, SELL, 100000 - m, NONE, NONE, 100000 + m - steps * m)
+    # 25 of a call and 26 of a put, underlying and strike apart
+    for limit in (1, 299, 300, 301, 100000):
+        agrees("protection", 25, 0, 0, 200, 300, BUY, NONE, limit)
+        agrees("protection", 26, 1, 0, 300, 200, BUY, NONE, limit)
+    # 24, an exempt call: both halves of a bid, and an offer; NBB at most 100 sets no limit
+    for best in (1, 99, 100):
+        for limit in (best, best + 99, best + 100, best + 101, 100000):
+            agrees("protection", 24, 0, 1, 200, NONE, BUY, best, limit)
+    for best in (101, 102, 103, 1000, 66666, 100000):
+        for limit in sorted(x for x in {best, best + best // 2 - 1, best + best // 2, best + best // 2 + 1, 100000} if x <= 100000):
+            agrees("protection", 24, 0, 1, 200, NONE, BUY, best, limit)
+        for limit in sorted({1, best // 2 - 1, best // 2, best // 2 + 1, best}):
+            agrees("protection", 24, 0, 1, 200, NONE, SELL, best, limit)
+    # 27 to 31 compare no prices
+    for rule in range(27, 32):
+        for side in (BUY, SELL):
+            add("stop_figures", rule, 1, 10, side, 500, 500, 500, 499, says="0 0")
+            add("bar_figures", rule, 0, 0, 200, 300, side, 100, 300, says="0 0")
+    # outside what the rules are for
+    add("stop_figures", 22, 1, 101, BUY, 500, 500, 0, 499, says="-")
+    add("stop_figures", 22, 2, 10, BUY, 500, 500, 0, 499, says="-")
+    add("bar_figures", 24, 0, 1, 200, NONE, BUY, 100001, 300, says="-")
+    add("bar_figures", 24, 0, 1, 200, NONE, BUY, 100, 100001, says="-")
+
+
+def asked_for_figures(what, rule, figures):
+    """The question for a rule's figures, where a reason was asked for: the same, less the kind; and the side."""
+    if what == "stop":
+        m, k, _, side, *prices = figures
+        return side, ("stop_figures", rule, m, k, side, *prices)
+    return figures[4], ("bar_figures", rule, *figures)
+
+
+def agrees(what, rule, *figures):
+    """Where no other rule can be told."""
+    side, asked = asked_for_figures(what, rule, figures)
+    holds = compared(rule, side, *map(int, add(*asked).split()))
+    assert ASK[what][1](*figures) == (rule if holds else 0,), (what, rule, figures)
+
+
+def figures_told():
+    """The figures of every reason that is told above: it must hold of them."""
+    asked = {}
+    for what, _, figures, line in TABLE:
+        if what in ("stop", "protection") and line not in ("0", "-"):
+            asked[asked_for_figures(what, int(line), figures)] = None
+    for side, question in asked:
+        assert compared(question[1], side, *map(int, add(*question).split())), question
+
+
 # ---- outside figures, by a fixed seed ----
 
 def near(r, m, middle):
@@ -272,7 +358,7 @@ def by_chance():
     for _ in range(120):
         m, k, kind, side = r.choice(MPVS), r.randint(0, 6), r.randint(1, 6), r.randint(0, 1)
         middle = m * r.randint(1, 100000 // m)
-        add("stop", m, k, kind, side, near(r, m, middle), maybe(r, near(r, m, middle)), int(kind == MMLO and r.random() < 0.3), near(r, m, middle))
+        add("stop", m, k, kind, side, near(r, m, middle), maybe(r, near(r, m, middle)), maybe(r, near(r, m, middle)), near(r, m, middle))
     for _ in range(80):
         middle = r.randint(10, 99990)
         add("resting", r.randint(0, 1), *(middle + r.randint(-3, 3) for _ in range(3)))
@@ -296,9 +382,11 @@ def table():
     protections()
     stops()
     slides()
+    figures_at_edges()
     by_chance()
+    figures_told()
     # a question that no rule answers
-    ASK["nothing"] = (11, lambda: None)
+    ASK["nothing"] = (13, lambda: None)
     add("nothing", says="-")
 
 

@@ -43,7 +43,7 @@ fn answer(q: Question) {
     match ask {
         1 => tell::aims(q.a, q.b, q.c, q.d, q.e, q.f),
         2 => tell::protection(q.a != 0, q.b != 0, q.c, q.d, q.e != 0, q.f, q.g),
-        3 => tell::stop(q.a, q.b, q.c, q.d != 0, q.e, q.f, q.g != 0, q.h),
+        3 => tell::stop(q.a, q.b, q.c, q.d != 0, q.e, q.f, q.g, q.h),
         4 => tell::resting(q.a != 0, q.b, q.c, q.d),
         5 => tell::eased(q.a != 0, q.b, q.c, q.d),
         6 => tell::legal(q.a, q.b),
@@ -51,6 +51,8 @@ fn answer(q: Question) {
         8 => tell::slide(q.a, q.b != 0, q.c, q.d, q.e),
         9 => tell::best(q.a != 0, q.b, q.c),
         10 => tell::away(q.a != 0, q.b, q.c),
+        11 => tell::figures_of_stop(q.a, q.b, q.c, q.d != 0, q.e, q.f, q.g, q.h),
+        12 => tell::figures_of_bar(q.a, q.b != 0, q.c != 0, q.d, q.e, q.f != 0, q.g, q.h),
         _ => tell::nothing(),
     }
 }

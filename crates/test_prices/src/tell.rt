@@ -1,10 +1,13 @@
 // The answer to each kind of question. A rule that asks something of its caller is asked only where that holds.
 use libc::STDOUT_FILENO;
+use prices::Figures;
 use prices::Guard;
 use prices::Market;
 use prices::Prices;
 use prices::ease::eased_to;
+use prices::post::stop_figures;
 use prices::post::stop_of;
+use prices::protect::bar_figures;
 use prices::protect::protection_of;
 use prices::request::request_aims;
 use prices::rest::is_slide;
@@ -80,7 +83,7 @@ pub(crate) fn stop(
     sell: bool,
     limit: u32,
     away: u32,
-    hidden: bool,
+    hidden: u32,
     display: u32,
 ) {
     if k > 100 {
@@ -90,6 +93,55 @@ pub(crate) fn stop(
         return number(stop_of(m, k, kind, sell, limit, away, hidden, display));
     }
     nothing();
+}
+
+fn both(figures: Figures) {
+    number(figures.first);
+    then(figures.second);
+}
+
+pub(crate) fn figures_of_stop(
+    rule: u32,
+    m: u32,
+    k: u32,
+    sell: bool,
+    limit: u32,
+    away: u32,
+    hidden: u32,
+    display: u32,
+) {
+    if k > 100 {
+        return nothing();
+    }
+    if is_mpv(m) {
+        return both(stop_figures(rule, m, k, sell, limit, away, hidden, display));
+    }
+    nothing();
+}
+
+pub(crate) fn figures_of_bar(
+    rule: u32,
+    put: bool,
+    exempt: bool,
+    strike: u32,
+    underlying: u32,
+    sell: bool,
+    best: u32,
+    limit: u32,
+) {
+    if best > 100000 {
+        return nothing();
+    }
+    if limit > 100000 {
+        return nothing();
+    }
+    let guard = Guard {
+        put,
+        exempt,
+        strike,
+        underlying,
+    };
+    both(bar_figures(rule, guard, sell, best, limit));
 }
 
 pub(crate) fn resting(sell: bool, shown: u32, display: u32, working: u32) {
