@@ -6,8 +6,8 @@
     python3 tests/price_vectors.py --list     prints each question and its answer, as text
 
 Run it from anywhere. It needs nothing but Python 3, and it runs no program of this repository: the answers are worked out in price_rules.py, from the words of
-document 01, and for the figures of a rule of document 02, 1, once for a buy and once for a sell. The gate runs the crate test_prices on the one file and compares
-what it prints with the other.
+document 01, and for the figures of a rule of document 02, 1, once for a buy and once for a sell. The gate runs the crate test_prices on the one file and
+compares what it prints with the other.
 
 A question is nine numbers of four bytes, most significant first: what is asked, and eight figures, zero where there are fewer.
 Its answer is one line. `-` stands for a question outside what the rule asked is for.
