@@ -34,8 +34,8 @@ static void pack_said(uint8_t *bytes, Said said) {
         bytes[(46 + i) / 8] |= (uint8_t)(128 >> (46 + i) % 8);
 }
 
-/* a new series with these terms, opened */
-static void open_series(uint8_t *state, Terms t) {
+/* a new series with these terms, which is closed */
+static void new_series(uint8_t *state, Terms t) {
   const uint32_t bits = t.put << 31 | t.exempt << 30 | t.m << 26 | t.k << 19 | t.strike << 2;
   const uint8_t setup[WAXGLIMMER_SETUP] = {(uint8_t)(bits >> 24), (uint8_t)(bits >> 16), (uint8_t)(bits >> 8), (uint8_t)bits};
   if (waxglimmer_setup(setup, sizeof setup, state, WAXGLIMMER_STATE) != 0)
@@ -194,7 +194,7 @@ static void reasons(void) {
   uint8_t message[WAXGLIMMER_MESSAGE];
   for (size_t i = 0; i < sizeof cases / sizeof *cases; i++) {
     const Case *c = &cases[i];
-    open_series(state, c->terms);
+    new_series(state, c->terms);
     play(state, (Said){PHASE, 0, 0, 0, 1});
     for (size_t j = 0; j < 6 && c->before[j].kind != 0; j++)
       play(state, c->before[j]);
@@ -239,7 +239,7 @@ static void own_first(void) {
   refused(sound, (Said){ORDER, 20, BUY, 100, 0}, 4);
   refused(sound, (Said){CANCEL, 20, 0, 0, 0}, 8); /* there is no entry 0 */
   refused(sound, (Said){WITHDRAW, 1, BUY, 0, 0}, 8);
-  open_series(edited, five);
+  new_series(edited, five);
   refused(edited, (Said){ORDER, 20, BUY, 100, 5}, 5);
   memcpy(edited, sound, sizeof edited);
   edited[26] |= 32; /* maker 3 is blocked */
@@ -301,7 +301,7 @@ int main(void) {
   state_end = fenced_end(FAR);
   room_end = fenced_end(MOST);
   reasons();
-  open_series(sound, five);
+  new_series(sound, five);
   play(sound, (Said){PHASE, 0, 0, 0, 1});
   play(sound, (Said){ORDER, 20, BUY, 100, 7});
   own_first();
