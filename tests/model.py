@@ -6,7 +6,7 @@
 prints what the session program must print for FILE (standard input without
 FILE); with --book the book after each message (shown_book.py), with --why the
 reason of each report (told_why.py).  The model is written from document 01
-alone and is meant to be read beside it.  It favours the document's own words over speed.
+(what a reason tells: from document 02, 1) and is meant to be read beside it.  It favours the document's own words over speed.
 
 The document words its rules for a buy and calls a sell the mirror image.  Here
 the mirror is the function `seen`: a buy sees prices as they are, a sell sees

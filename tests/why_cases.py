@@ -1,5 +1,5 @@
 #!/usr/bin/env python3
-"""Reasons worked out by hand from document 01, against what the model tells.
+"""Reasons worked out by hand from document 01 and document 02, 1, against what the model tells.
 
     python3 tests/why_cases.py
 

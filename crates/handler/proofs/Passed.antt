@@ -97,7 +97,7 @@ ask-kind (Underlying price) = omega arith
 ask-kind (Phase phase) = omega arith
 ask-kind (Enable party) = omega arith
 
--- A MESSAGE IS ACCEPTED: the series is sound, and no test of a refusal holds
+-- what a sound series refuses by no test is accepted
 pub accepts : (s : Series) (e : Event) → soundSeries s ≡ true → refusalOf s (askOf e) ≡ 0 → Accepted s (askOf e)
 accepts s e h k = record { sound = h; kind = ask-kind e .0; passes = k }
 

@@ -16,10 +16,13 @@ use Rattle.packing.specs.Codec.{unpackOf}
 use Rattle.packing.specs.Message.{messages}
 use Rattle.packing.specs.Room.{roomSize, reportAt}
 use Rattle.series.specs.declared.Series.{Series}
+use Rattle.handler.specs.declared.Ask.{Ask}
 use Rattle.handler.specs.declared.Answer.{Answer}
-use Rattle.handler.specs.Handle.{Handled, firstOf, handledAs}
+use Rattle.handler.specs.Asked.{askOf}
+use Rattle.handler.specs.Handle.{Handled, firstOf, handledAs, handled}
 use Rattle.series_buffer.specs.State.{unpackSeries}
-use Rattle.why.specs.Why.{numbersOf, inLent, unexplained, whyOf, refusalAt, explainedBy, explainedAs}
+use Rattle.why.specs.Why.{Explained, numbersOf, inLent, unexplained, whyOf, refusalAt, explainedBy, explainedAs, explained}
+use Rattle.why.proofs.WhyTrue.{WhyTrue, why-true}
 use Rattle.server.specs.Serve.{Served, unserved, packedAgain, serveIn, serveAs, serve}
 use Rattle.server.specs.Explain.{Reply, inNumbers, explainIn, explainHeld, explain}
 
@@ -125,3 +128,26 @@ why-refused-keeps state message place room h = by (ltb (length room) roomSize) (
         let x = handledAs s (unpackOf messages message) room in
         let why = refusalAt (x .answer) place in
         keeps s (unpackOf messages message) x why (eqb why 0) k
+
+-- ---- what is told is true ----
+
+-- the numbers are those of what the tool tells of the series in the buffer, and that is true (`why-true` of crate why)
+pub record TrueReply (s : Series) (a : Ask) (place : ℕ) (h : Handled) (x : Reply) : Type 0 where
+  pub explained : Explained
+  pub told : x ≡ inNumbers explained
+  pub true-of-it : WhyTrue s a place h explained
+
+-- WHAT C IS TOLD IS TRUE, for every accepted message and every place below the count
+pub why-serves-truth : (state message : List ℕ) (place : ℕ) (room : List ℕ) (s : Series) (e : Event) → unpackSeries state ≡ some s
+    → unpackOf messages message ≡ some e → serve state message room .refusal ≡ 0 → place < serve state message room .count
+    → TrueReply s (askOf e) place (handled s message room) (explain state message place room)
+unfolding serve serveAs handled explain explainHeld explained
+why-serves-truth state message place room s e held read free more =
+    rw held (by (ltb (length room) roomSize) (rw held at free) (rw held at more))
+  where
+    by : (c : Bool) → cond c (unserved 10 state room) (serveIn state (unpackOf messages message) room (some s)) .refusal ≡ 0
+        → place < cond c (unserved 10 state room) (serveIn state (unpackOf messages message) room (some s)) .count
+        → TrueReply s (askOf e) place (handled s message room)
+        (inNumbers (cond c (unexplained 10 room) (explainIn (unpackOf messages message) place room (some s))))
+    by true z l = absurd (omega (arith, z))
+    by false z l = record { explained = explained s message place room; told = refl; true-of-it = why-true s message room place e read z l }

@@ -1,5 +1,6 @@
 pub mod WhyLaws
 pub mod TextLaws
+pub mod WhyPrinted
 pub mod HeldLaws
 pub mod SetupLaws
 pub mod Progress
