@@ -1,9 +1,9 @@
 #!/usr/bin/env python3
-"""How crates/ is laid out: what docs/CHANGING.md asks and no prover does.
+"""How the tree is laid out: what docs/CHANGING.md asks and no prover does.
 
     python3 tests/layout.py      names each place that is not so, and fails if there is one
 
-- No line is longer than 160 columns, and no file longer than 400 lines.
+- In crates/ no line is longer than 160 columns; no file of it, no script and no program in C is longer than 400 lines.
 - No proof counts its steps back (`.before`): it names the places that it reads.
 - A kind is told by the table of crate kinds: no code compares a kind with a number of its own (0, the kind of an
   unused place, is none of the table's), and nothing but worked examples opens the table's rows.
@@ -33,21 +33,26 @@ def faults_of(name, line):
         yield "opens the table of kinds"
 
 
+def files():
+    """Rattle and its proofs; the scripts, and the programs in C."""
+    yield from (path for path in ROOT.glob("crates/**/*") if path.suffix in (".rt", ".antt"))
+    for folder in ("tests", "teach", "c", "bench", ".ci"):
+        yield from (path for path in ROOT.glob(folder + "/*") if path.is_file() and path.suffix in ("", ".py", ".sh", ".awk", ".c", ".h"))
+    yield ROOT / "waxglimmer"
+
+
 def faults():
-    for path in sorted(ROOT.glob("crates/**/*")):
-        if path.suffix not in (".rt", ".antt"):
-            continue
+    for path in sorted(files()):
         name, lines = str(path.relative_to(ROOT)), path.read_text().splitlines()
         if len(lines) > LENGTH:
             yield "%s: %d lines" % (name, len(lines))
-        for number, line in enumerate(lines, 1):
-            for fault in faults_of(name, line):
-                yield "%s:%d: %s" % (name, number, fault)
+        if name.startswith("crates/"):
+            yield from ("%s:%d: %s" % (name, number, fault) for number, line in enumerate(lines, 1) for fault in faults_of(name, line))
 
 
 def main():
     found = list(faults())
-    print("\n".join(found) if found else "layout: crates/ is laid out as it should be")
+    print("\n".join(found) if found else "layout: the tree is laid out as it should be")
     sys.exit(bool(found))
 
 

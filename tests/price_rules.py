@@ -1,5 +1,5 @@
-"""The price rules, from the words of document 01 alone, and the figures that they compare, from those of document 02's first request: once for a buy and once
-for a sell, so that a slip in one shows against the other.
+"""The price rules, from the words of document 01 alone, once for a buy and once for a sell, so that a slip in one shows against the other; and the figures
+that they compare, from those of document 02's first request, which must hold just where the rule does (figure_vectors.py).
 
 price_vectors.py puts its questions to `ASK`, by name; a rule answers None for a question outside what it is for.
 """
@@ -147,27 +147,15 @@ def sell_stop(m, k, kind, limit, away_bid, hidden_buy, display):
 
 # ---- document 02, 1: the two figures that a rule compares, the entry's own first, and when it holds of them ----
 
-def buy_stop_figures(rule, m, k, limit, away_offer, hidden_sell, display):
+def stop_figures(rule, m, k, side, limit, away, hidden, display):
     if rule == 20:
-        return limit, away_offer
+        return limit, away
     if rule == 21:
-        return limit, hidden_sell
+        return limit, hidden
     if rule == 22:
-        return limit - display, k * m
+        return limit - display if side == BUY else display - limit, k * m
     if rule == 23:
-        return display, m
-    return 0, 0
-
-
-def sell_stop_figures(rule, m, k, limit, away_bid, hidden_buy, display):
-    if rule == 20:
-        return limit, away_bid
-    if rule == 21:
-        return limit, hidden_buy
-    if rule == 22:
-        return display - limit, k * m
-    if rule == 23:
-        return display, 100000
+        return display, m if side == BUY else 100000
     return 0, 0
 
 
@@ -273,7 +261,7 @@ def answer_away(side, bid, offer):
 def answer_stop_figures(rule, m, k, side, limit, away, hidden, display):
     if m not in MPVS or k > 100:
         return None
-    return (buy_stop_figures if side == BUY else sell_stop_figures)(rule, m, k, limit, away, hidden, display)
+    return stop_figures(rule, m, k, side, limit, away, hidden, display)
 
 
 def answer_bar_figures(rule, put, exempt, strike, underlying, side, best, limit):

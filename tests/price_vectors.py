@@ -6,8 +6,8 @@
     python3 tests/price_vectors.py --list     prints each question and its answer, as text
 
 Run it from anywhere. It needs nothing but Python 3, and it runs no program of this repository: the answers are worked out in price_rules.py, from the words of
-document 01, and for the figures of a rule of document 02, 1, once for a buy and once for a sell. The gate runs the crate test_prices on the one file and
-compares what it prints with the other.
+document 01, once for a buy and once for a sell, and for the figures of a rule from those of document 02, 1. The gate runs the crate test_prices on the one
+file and compares what it prints with the other.
 
 A question is nine numbers of four bytes, most significant first: what is asked, and eight figures, zero where there are fewer.
 Its answer is one line. `-` stands for a question outside what the rule asked is for.
@@ -25,40 +25,14 @@ Its answer is one line. `-` stands for a question outside what the rule asked is
     11 stop_figures  rule M K side limit away hidden display            the two figures that 20, 21, 22 or 23 compares; 0 0 for 27 to 31
     12 bar_figures   rule put exempt strike underlying side best limit  the two figures that 24, 25 or 26 compares; 0 0 for 27 to 31
 """
-import os
 import random
 import struct
 import sys
 
-from price_rules import ASK, BUY, DARK, DISPLAYED, MMALO, MMLO, MMRP, MOST, MPVS, NONE, PLAIN, SELL, buy_aims, compared, request, sell_aims
-
-TABLE = []
-
-
-def add(what, *figures, says=None):
-    """One question. `says` is the answer written out by hand, as the document states it: the model must give the same."""
-    number, rule = ASK[what]
-    got = rule(*figures)
-    assert got is None or min(got) >= 0, f"{what} {figures}: no document says a figure below 0"
-    line = "-" if got is None else " ".join(str(x) for x in got)
-    assert says is None or line == says, f"{what} {figures}: expected {says}, the model says {line}"
-    TABLE.append((what, number, figures, line))
-    return line
-
-
-def mirrored(m, price):
-    """The price of a sell that faces what `price` is to a buy: the lowest legal price stands for the highest. None stays none."""
-    return NONE if price == NONE else 100000 + m - price
-
-
-def add_both(kind, limit, away, contra, m, says=None):
-    """The aims of a buy, and of the sell that is its mirror image: the answers must mirror each other."""
-    buy = request(kind, BUY, limit, away, contra, m)
-    sell = request(kind, SELL, mirrored(m, limit), mirrored(m, away), mirrored(m, contra), m)
-    assert buy[0] == 0 and sell == (0, 100000 + m - buy[1], 100000 + m - buy[2]), (kind, limit, away, contra, m, buy, sell)
-    add("aims", kind, BUY, limit, away, contra, m, says=says)
-    add("aims", kind, SELL, mirrored(m, limit), mirrored(m, away), mirrored(m, contra), m)
-
+from figure_vectors import figures_at_edges, figures_told
+from price_questions import TABLE, add, add_both
+from price_rules import ASK, BUY, DARK, DISPLAYED, MMALO, MMLO, MMRP, MOST, MPVS, NONE, PLAIN, SELL, buy_aims, sell_aims
+from tables import keep
 
 # ---- the class examples, as far as they are about prices ----
 
@@ -263,75 +237,6 @@ def slides():
     add("slide", 1, SELL, 1, 1, 0, says="0")
 
 
-# ---- the two figures of a rule ----
-
-def figures_at_edges():
-    """Each rule's figures at its edge and about it: it must hold of them just where document 01 says that it does."""
-    # 20 and 21, of an MMLO
-    for side in (BUY, SELL):
-        for limit in (1, 499, 500, 501, 100000):
-            agrees("stop", 20, 1, 10, MMLO, side, limit, 500, NONE, limit)
-            agrees("stop", 21, 1, 10, MMLO, side, limit, NONE, 500, limit)
-    # 22 in cents, whatever the MPV; 23
-    for m in MPVS:
-        for kind in (MMALO, MMRP):
-            for k in (0, 3, 100):
-                for steps in sorted({0, k, k + 1}):
-                    agrees("stop", 22, m, k, kind, BUY, 5000, NONE, NONE, 5000 - steps * m)
-                    agrees("stop", 22, m, k, kind, SELL, 5000, NONE, NONE, 5000 + steps * m)
-            for steps in (0, 1, 2):
-                agrees("stop", 23, m, 100, kind, BUY, 2 * m, NONE, NONE, steps * m)
-                agrees("stop", 23, m, 100, kind, SELL, 100000 - m, NONE, NONE, 100000 + m - steps * m)
-    # 25 of a call and 26 of a put, underlying and strike apart
-    for limit in (1, 299, 300, 301, 100000):
-        agrees("protection", 25, 0, 0, 200, 300, BUY, NONE, limit)
-        agrees("protection", 26, 1, 0, 300, 200, BUY, NONE, limit)
-    # 24, an exempt call: both halves of a bid, and an offer; NBB at most 100 sets no limit
-    for best in (1, 99, 100):
-        for limit in (best, best + 99, best + 100, best + 101, 100000):
-            agrees("protection", 24, 0, 1, 200, NONE, BUY, best, limit)
-    for best in (101, 102, 103, 1000, 66666, 100000):
-        for limit in sorted(x for x in {best, best + best // 2 - 1, best + best // 2, best + best // 2 + 1, 100000} if x <= 100000):
-            agrees("protection", 24, 0, 1, 200, NONE, BUY, best, limit)
-        for limit in sorted({1, best // 2 - 1, best // 2, best // 2 + 1, best}):
-            agrees("protection", 24, 0, 1, 200, NONE, SELL, best, limit)
-    # 27 to 31 compare no prices
-    for rule in range(27, 32):
-        for side in (BUY, SELL):
-            add("stop_figures", rule, 1, 10, side, 500, 500, 500, 499, says="0 0")
-            add("bar_figures", rule, 0, 0, 200, 300, side, 100, 300, says="0 0")
-    # outside what the rules are for
-    add("stop_figures", 22, 1, 101, BUY, 500, 500, 0, 499, says="-")
-    add("stop_figures", 22, 2, 10, BUY, 500, 500, 0, 499, says="-")
-    add("bar_figures", 24, 0, 1, 200, NONE, BUY, 100001, 300, says="-")
-    add("bar_figures", 24, 0, 1, 200, NONE, BUY, 100, 100001, says="-")
-
-
-def asked_for_figures(what, rule, figures):
-    """The question for a rule's figures, where a reason was asked for: the same, less the kind; and the side."""
-    if what == "stop":
-        m, k, _, side, *prices = figures
-        return side, ("stop_figures", rule, m, k, side, *prices)
-    return figures[4], ("bar_figures", rule, *figures)
-
-
-def agrees(what, rule, *figures):
-    """Where no other rule can be told."""
-    side, asked = asked_for_figures(what, rule, figures)
-    holds = compared(rule, side, *map(int, add(*asked).split()))
-    assert ASK[what][1](*figures) == (rule if holds else 0,), (what, rule, figures)
-
-
-def figures_told():
-    """The figures of every reason that is told above: it must hold of them."""
-    asked = {}
-    for what, _, figures, line in TABLE:
-        if what in ("stop", "protection") and line not in ("0", "-"):
-            asked[asked_for_figures(what, int(line), figures)] = None
-    for side, question in asked:
-        assert compared(question[1], side, *map(int, add(*question).split())), question
-
-
 # ---- outside figures, by a fixed seed ----
 
 def near(r, m, middle):
@@ -392,23 +297,14 @@ def table():
 
 def main():
     table()
-    stdin = b"".join(struct.pack(">9I", number, *figures, *([0] * (8 - len(figures)))) for _, number, figures, _ in TABLE)
-    stdout = "".join(line + "\n" for *_, line in TABLE).encode()
-    where = os.path.join(os.path.dirname(os.path.abspath(__file__)), "..", "crates", "test_prices")
     words = sys.argv[1:]
     if words == ["--list"]:
         for what, _, figures, line in TABLE:
             print(what, *figures, "->", line)
-    elif words == ["--check"]:
-        for name, made in (("stdin", stdin), ("stdout", stdout)):
-            if open(os.path.join(where, name), "rb").read() != made:
-                sys.exit(f"price_vectors: crates/test_prices/{name} is not what this script writes")
+    elif words in ([], ["--check"]):
+        stdin = b"".join(struct.pack(">9I", number, *figures, *([0] * (8 - len(figures)))) for _, number, figures, _ in TABLE)
+        keep("test_prices", {"stdin": stdin, "stdout": "".join(line + "\n" for *_, line in TABLE).encode()})
         print(f"price_vectors: {len(TABLE)} questions, both files as written")
-    elif not words:
-        for name, made in (("stdin", stdin), ("stdout", stdout)):
-            with open(os.path.join(where, name), "wb") as f:
-                f.write(made)
-        print(f"price_vectors: {len(TABLE)} questions written")
     else:
         sys.exit(__doc__)
 
