@@ -71,7 +71,7 @@ enters-bounds {t} {e} {f} {b} n = record {
 -- so it may be put to a book in which C is the same for a kind that minds it
 pub posts-of : {t : Terms} {e : Entry} {f : Facing} {b : Book} → Enters t e f b → (d : Book) → WellFormed d
     → (minds (e .kind) ≡ true → f .contra ≡ contra (e .sell) (entriesOf d)) → Posts t e d (f .contra)
-posts-of n d w known = record { well = w; steps = n .arriving .steps; bounds = enters-bounds n; known = known }
+posts-of n d w known = record { well = w; bounds = enters-bounds n; known = known }
 
 pub enters-posts : {t : Terms} {e : Entry} {f : Facing} {b : Book} → Enters t e f b → Posts t e b (f .contra)
 enters-posts {b = b} n = posts-of n b (n .well) (λ _. n .faces .contra)

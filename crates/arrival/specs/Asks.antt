@@ -37,7 +37,6 @@ use Rattle.arrival.specs.Arrive.{replaced, bookLeft, posted, finished, n
 pub record Arriving (t : Terms) (e : Entry) (l : List Entry) : Type 0 where
   pub market : soundMarket (marketOf t) ≡ true
   pub entries : soundEntries (t .m) (t .given) l ≡ true
-  pub steps : t .k ≤ 100
   -- the next number, if there is one
   pub number : e .number ≡ t .given + 1
   pub fresh : t .given < lastNumber

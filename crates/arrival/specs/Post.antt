@@ -1,6 +1,6 @@
 -- "What is left posts, unless, first that applies: 20, .. 21, .. 23, .. 22".
 -- Assumes nothing.
-use Prim.Native.Nat.{ℕ, _≤_}
+use Prim.Native.Nat.{ℕ}
 use mathlib.Core.Path.{_≡_}
 use mathlib.Core.Bool.{true, cond}
 use mathlib.Core.List.{List}
@@ -49,10 +49,9 @@ stopsIn t e l =
 unfoldable pub stopFor : Terms → Entry → List Entry → ℕ
 stopFor t e l = reasonOf (e .sell) (stopsIn t e l)
 
--- what the functions ask of their callers: a well-formed book, K as setup allows it, an M that is listed, and an away price and a contra price c that are none
--- or legal; c is the C of the book for a kind that minds it, and any other kind may have traded since c was seen
+-- what the functions ask of their callers: a well-formed book, an M that is listed, and an away price and a contra price c that are none or legal; c is the C
+-- of the book for a kind that minds it, and any other kind may have traded since c was seen
 pub record Posts (t : Terms) (e : Entry) (b : Book) (c : ℕ) : Type 0 where
   pub well : WellFormed b
-  pub steps : t .k ≤ 100
   pub bounds : Bounds (t .m) (away (marketOf t) (e .sell)) c
   pub known : minds (e .kind) ≡ true → c ≡ contra (e .sell) (entriesOf b)

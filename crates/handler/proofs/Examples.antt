@@ -16,7 +16,7 @@ use Rattle.lists.specs.Run.{still, leading, runFor, ran}
 use Rattle.packing.specs.Codec.{thingOf, unpackOf}
 use Rattle.packing.specs.Message.{byKind, messages}
 use Rattle.prices.specs.Side.{keen, meek, reaches, nearer}
-use Rattle.prices.specs.Step.{mpv, onGrid, legal, noneOrLegal, back, lastPrice, apart, allowed}
+use Rattle.prices.specs.Step.{mpv, onGrid, up, down, rung, legal, noneOrLegal, back, lastPrice, apart}
 use Rattle.kinds.specs.Kinds.{rowOf}
 use Rattle.prices.specs.Aims.{minded, upTo, shortOf, aimDisplay, aimWorking}
 use Rattle.prices.specs.Protect.{figures24, limited24}
@@ -322,7 +322,7 @@ expected r = record {
 -- THE THEOREM: every row of the table comes out as document 01 says
 pub examples : map outcome table ≡ map expected table
 unfolding without all any pairs scan first still leading runFor ran thingOf unpackOf byKind keen meek reaches nearer mpv onGrid legal noneOrLegal back
-    lastPrice apart allowed rowOf minded upTo shortOf aimDisplay aimWorking figures24 limited24 marketable restingPrices atRest stirsAt
+    lastPrice up down rung apart rowOf minded upTo shortOf aimDisplay aimWorking figures24 limited24 marketable restingPrices atRest stirsAt
     slides easedTo eases entriesOf bookOf hit hitBoth cost priority bestContra nearest quoteIn lowest pricedAs soundEntry soundPair soundEntries
     soundBook nextEase easings nextStir stirrings eased stirred settled cut nextTake chances taken took stopFor rejectedBy entered stopsAtOnce protectionFor
     rejection arrived soundTerms soundPhase soundSeries refusalOf ownPart termsAfter blocks blockedAfter done

@@ -181,7 +181,6 @@ module _ (s : Series) (a : Ask) (ok : Accepted s a) where
       record {
         market = facts .market;
         entries = facts .entries;
-        steps = facts .sound .terms .steps;
         number = refl;
         fresh = enters-fresh q;
         entering = q;

@@ -28,10 +28,10 @@ claimedBy l = some (record { put = eqb (getD l 0 0) 1; exempt = eqb (getD l 1 0)
 abbrev pub topStrike : ℕ
 topStrike = 100000
 
--- "M, the series' MPV: 1, 5 or 10", "K .. is 0 to 100", "Strike 1 to 100,000". "Setup of other length or values is refused (1, no series)"
+-- "Setup M 10 is refused; 1 and 5 name the pairs.", "K .. is 0 to 100", "Strike 1 to 100,000". "Setup of other length or values is refused (1, no series)"
 abbrev pub legalSetup : Setup → Bool
 legalSetup s =
-    (eqb (s .m) 1 || (eqb (s .m) 5 || eqb (s .m) 10)) && (leb (s .k) 100 && (leb 1 (s .strike) && leb (s .strike) topStrike))
+    (eqb (s .m) 1 || eqb (s .m) 5) && (leb (s .k) 100 && (leb 1 (s .strike) && leb (s .strike) topStrike))
 
 abbrev pub setups : Codec Setup
 setups = record { widths = widths; size = setupSize; code = codeOf; claimed = claimedBy; admitted = legalSetup }

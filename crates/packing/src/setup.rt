@@ -39,8 +39,7 @@ fn code(s: Setup) -> [u32; 6]
 fn is_legal(s: Setup) -> bool
     ensures { λ r. ⌜ r ≡ legalSetup s ⌝ }
 {
-    ((s.m == 1) | ((s.m == 5) | (s.m == 10)))
-        & ((s.k <= 100) & ((1 <= s.strike) & (s.strike <= TOP_STRIKE)))
+    ((s.m == 1) | (s.m == 5)) & ((s.k <= 100) & ((1 <= s.strike) & (s.strike <= TOP_STRIKE)))
 }
 
 // The setup that the fields say, if they are just its fields and its values are legal.

@@ -1,4 +1,6 @@
 pub mod FrameLaws
+pub mod GridLaws
+pub mod CountLaws
 pub mod StepLaws
 pub mod AimLaws
 pub mod RestLaws

@@ -1,16 +1,19 @@
--- THE LAWS OF THE STEP: positive, back-lt, back-grid, back-high, back-legal, last-legal, past-last, within-last. Every other law knows a step by these alone,
--- so that a step which depends on the price moves this file and specs/Step, and what says the same in plain words (crate soundness, specs/SoundBook and
--- DecideLaws).
+-- THE LAWS OF THE STEP, for the pairs that M names, in the frame of a side: positive, back-lt, back-grid, back-high, back-legal, last-legal, past-last,
+-- within-last, and what `apart` counts. Every other law knows a step by these alone, so that another grid moves this file, the laws of any pair (GridLaws,
+-- CountLaws) and specs/Step, and what says the same in plain words (crate soundness, specs/SoundBook and DecideLaws).
 -- Assumes nothing.
-use Prim.Native.Nat.{ℕ, _+_, _*_, _≤_, _<_, _%_}
-use mathlib.Core.Path.{_≡_, refl, sym}
-use mathlib.Core.Bool.{Bool, true, false, not, _&&_, _||_, and-true}
+use Prim.Native.Nat.{ℕ, _+_, _-_, _/_, _≤_, _<_, _%_, min}
+use mathlib.Core.Path.{_≡_, refl, sym, ap, _∙_}
+use mathlib.Core.Bool.{Bool, true, false, cond, not, _&&_, _||_}
+use native.Mathlib.Nat.{mod-one, div-one}
 use native.Mathlib.Omega.{arith}
-use borrow.Author.Tests.{leb-true, eqb-true, eqb-false, le-leb, eq-eqb, ne-eqb, not-true, not-false}
-use lib.Dec.{eqb, leb}
-use Rattle.prices.specs.Side.{reaches}
-use Rattle.prices.specs.Step.{mpv, onGrid, legal, noneOrLegal, back, lastPrice, topPrice}
+use borrow.Author.Tests.{leb-true, leb-false, eqb-true, eqb-false, le-leb, lt-ltb, le-ltb, eq-eqb, ne-eqb, not-true, not-false}
+use lib.Dec.{eqb, leb, ltb}
+use Rattle.prices.specs.Side.{Aggressive, Short, reaches}
+use Rattle.prices.specs.Step.{stepsOf, mpv, onGrid, legal, noneOrLegal, up, down, back, lastPrice, topPrice, change, rung, apart}
 use Rattle.prices.proofs.FrameLaws.{seen, reaches-true, reaches-false}
+use Rattle.prices.proofs.GridLaws.{Grid, OnGrid, is-on-grid, on-grid-is, up-more, down-less, none-above, none-below, up-on, down-on}
+use Rattle.prices.proofs.CountLaws.{after, after-up, after-down, after-end, rung-mono, rung-less, less-rung, same-rung}
 use Rattle.lists.proofs.Bools.{clash, and-left, and-right}
 
 -- ---- the tests as facts ----
@@ -18,12 +21,16 @@ use Rattle.lists.proofs.Bools.{clash, and-left, and-right}
 pub data Mpv : ℕ → Type 0 where
   cent : Mpv 1
   nickel : Mpv 5
-  dime : Mpv 10
+
+-- each names a grid
+pub grid-of : {m : ℕ} → Mpv m → Grid (stepsOf m)
+grid-of cent = record { small-some = omega arith; large-some = omega arith; small-divides = refl; large-divides = refl }
+grid-of nickel = record { small-some = omega arith; large-some = omega arith; small-divides = refl; large-divides = refl }
 
 pub record Legal (m p : ℕ) : Type 0 where
   pub low : m ≤ p
   pub high : p ≤ topPrice
-  pub grid : p % m ≡ 0
+  pub grid : OnGrid (stepsOf m) p
 
 -- none, or legal
 pub record LegalIfAny (m p : ℕ) : Type 0 where
@@ -31,25 +38,27 @@ pub record LegalIfAny (m p : ℕ) : Type 0 where
 
 pub is-mpv : (m : ℕ) → mpv m ≡ true → Mpv m
 unfolding mpv
-is-mpv m h = go (eqb m 1) refl (eqb m 5) refl (eqb m 10) refl h
+is-mpv m h = go (eqb m 1) refl (eqb m 5) refl h
   where
-    go : (a : Bool) → eqb m 1 ≡ a → (b : Bool) → eqb m 5 ≡ b → (c : Bool) → eqb m 10 ≡ c → (a || (b || c)) ≡ true → Mpv m
-    go true e b f c g k = rw (eqb-true m 1 e) cent
-    go false e true f c g k = rw (eqb-true m 5 f) nickel
-    go false e false f true g k = rw (eqb-true m 10 g) dime
-    go false e false f false g k = clash k refl
+    go : (a : Bool) → eqb m 1 ≡ a → (b : Bool) → eqb m 5 ≡ b → (a || b) ≡ true → Mpv m
+    go true e b f k = rw (eqb-true m 1 e) cent
+    go false e true f k = rw (eqb-true m 5 f) nickel
+    go false e false f k = clash k refl
 
 pub is-legal : (m p : ℕ) → legal m p ≡ true → Legal m p
-unfolding legal onGrid
-is-legal m p h = record {
-  low = leb-true m p (and-left (leb m p) (leb p topPrice && eqb (p % m) 0) h);
-  high = leb-true p topPrice (and-left (leb p topPrice) (eqb (p % m) 0) (and-right (leb m p) (leb p topPrice && eqb (p % m) 0) h));
-  grid = eqb-true (p % m) 0 (and-right (leb p topPrice) (eqb (p % m) 0) (and-right (leb m p) (leb p topPrice && eqb (p % m) 0) h));
-}
+unfolding legal
+is-legal m p h =
+    let on = onGrid (stepsOf m) p in
+    let rest = and-right (leb m p) (leb p topPrice && on) h in
+    record {
+      low = leb-true m p (and-left (leb m p) (leb p topPrice && on) h);
+      high = leb-true p topPrice (and-left (leb p topPrice) on rest);
+      grid = is-on-grid (stepsOf m) p (and-right (leb p topPrice) on rest);
+    }
 
 pub legal-is : {m p : ℕ} → Legal m p → legal m p ≡ true
-unfolding legal onGrid
-legal-is {m} {p} a = rw (le-leb m p (a .low), le-leb p topPrice (a .high), eq-eqb (p % m) 0 (a .grid))
+unfolding legal
+legal-is {m} {p} a = rw (le-leb m p (a .low), le-leb p topPrice (a .high), on-grid-is (a .grid))
 
 pub is-none-or-legal : (m p : ℕ) → noneOrLegal m p ≡ true → LegalIfAny m p
 unfolding noneOrLegal
@@ -69,33 +78,50 @@ if-any-none = record { legal = λ e. absurd (eqb-false 0 0 e refl) }
 pub given-legal : {m p : ℕ} → Legal m p → LegalIfAny m p
 given-legal a = record { legal = λ _. a }
 
--- multiples of each MPV by constant divisors
-pub grid-cent : {m : ℕ} (p : ℕ) → m ≡ 1 → true ≡ onGrid m p
-unfolding onGrid
-grid-cent p e = rw e (sym (eq-eqb (p % 1) 0 (omega arith)))
+-- ---- the grid and the count by constant divisors, as the code has them ----
 
-pub grid-fast : {m : ℕ} → Mpv m → (p : ℕ) → ((not (eqb m 5) || eqb (p % 5) 0) && (not (eqb m 10) || eqb (p % 10) 0)) ≡ onGrid m p
-unfolding onGrid
-grid-fast cent p = sym (eq-eqb (p % 1) 0 (omega arith))
-grid-fast nickel p = and-true (eqb (p % 5) 0)
-grid-fast dime p = refl
+pub one-or-five : {m : ℕ} → Mpv m → (m ≡ 1 → ⊥) → m ≡ 5
+one-or-five cent other = absurd (other refl)
+one-or-five nickel other = refl
 
-pub allowed-few : {m : ℕ} → Mpv m → (k : ℕ) → k ≤ 100 → k * m ≤ 1000
-allowed-few cent k h = omega arith
-allowed-few nickel k h = omega arith
-allowed-few dime k h = omega arith
+pub grid-below : {m : ℕ} → Mpv m → (p : ℕ) → p < change → (eqb m 1 || eqb (p % 5) 0) ≡ onGrid (stepsOf m) p
+unfolding onGrid
+grid-below cent p h = rw (lt-ltb p change h) (sym (eq-eqb (p % 1) 0 (mod-one p)))
+grid-below nickel p h = rw (lt-ltb p change h)
+
+pub grid-from : (m p : ℕ) → change ≤ p → cond (eqb m 1) (eqb (p % 5) 0) (eqb (p % 10) 0) ≡ onGrid (stepsOf m) p
+unfolding onGrid
+grid-from m p h = rw (le-ltb p change h) (go (eqb m 1))
+  where
+    go : (b : Bool) → cond b (eqb (p % 5) 0) (eqb (p % 10) 0) ≡ eqb (p % cond b 5 10) 0
+    go true = refl
+    go false = refl
+
+pub rung-by : {m : ℕ} → Mpv m → (p : ℕ)
+    → cond (eqb m 1) (p - (p - change) + (p - change) / 5) ((p - (p - change)) / 5 + (p - change) / 10) ≡ rung (stepsOf m) p
+unfolding rung
+rung-by cent p = rw (div-one (min p change)) (omega arith)
+rung-by nickel p = let e : min p change ≡ p - (p - change) = omega arith in rw e refl
 
 -- ---- the laws ----
 
-gap : {m p q : ℕ} → Mpv m → Legal m p → Legal m q → p < q → p + m ≤ q
-gap cent a b h = omega arith
-gap nickel a b h = omega (arith, a .grid, b .grid)
-gap dime a b h = omega (arith, a .grid, b .grid)
-
-pub small : {m : ℕ} → Mpv m → (1 ≤ m) × (m ≤ 10)
+pub small : {m : ℕ} → Mpv m → (1 ≤ m) × (m ≤ 5)
 small cent = omega arith
 small nickel = omega arith
-small dime = omega arith
+
+pub step-few : {m : ℕ} → Mpv m → (fine : Bool) → cond fine m (stepsOf m .large) ≤ 10
+step-few cent true = omega arith
+step-few cent false = omega arith
+step-few nickel true = omega arith
+step-few nickel false = omega arith
+
+-- the step below a legal price is no longer than the price
+pub step-within : {m p : ℕ} → Mpv m → Legal m p → cond (leb p change) m (stepsOf m .large) ≤ p
+step-within {m} {p} v a = go (leb p change) refl
+  where
+    go : (b : Bool) → leb p change ≡ b → cond b m (stepsOf m .large) ≤ p
+    go true e = a .low
+    go false e = omega (arith, leb-false p change e, step-few v false)
 
 -- no legal price is 0
 pub positive : {m p : ℕ} → Mpv m → Legal m p → 1 ≤ p
@@ -107,44 +133,41 @@ present {m} {p} v a = ne-eqb p 0 (λ e. omega (arith, positive v a))
 -- one step back is less aggressive
 pub back-lt : {m p : ℕ} (s : Bool) → Mpv m → Legal m p → seen s (back m s p) < seen s p
 unfolding seen back
-back-lt false v a = omega (arith, small v, a)
-back-lt true v a = omega (arith, small v, a)
+back-lt {m} {p} false v a = down-less (grid-of v) p (positive v a)
+back-lt {m} {p} true v a = omega (arith, up-more (grid-of v) p, a .high)
 
 -- and no legal price lies between
 pub back-grid : {m p q : ℕ} (s : Bool) → Mpv m → Legal m p → Legal m q → seen s p < seen s q → seen s p ≤ seen s (back m s q)
 unfolding seen back
-back-grid {m} {p} {q} false v a b h = omega (arith, gap v a b h)
-back-grid {m} {p} {q} true v a b h = let qp : q < p = omega (arith, a, b) in omega (arith, gap v b a qp)
+back-grid {m} {p} {q} false v a b h = none-below (grid-of v) (a .grid) (b .grid) h
+back-grid {m} {p} {q} true v a b h =
+    let qp : q < p = omega (arith, a .high, b .high, h) in omega (arith, none-above (grid-of v) (b .grid) (a .grid) qp)
 
+-- "an aim may fall one step outside the legal prices: 0, or 100,000 and one large step"
 pub back-high : {m p : ℕ} (s : Bool) → Mpv m → Legal m p → back m s p ≤ 100010
-unfolding back
-back-high false v a = omega (arith, a)
-back-high true v a = omega (arith, small v, a)
+unfolding back up down
+back-high false v a = omega (arith, a .high)
+back-high {m} {p} true v a = omega (arith, step-few v (ltb p change), a .high)
 
-grid-back : {m p : ℕ} (s : Bool) → Mpv m → Legal m p → back m s p % m ≡ 0
+-- one step back lies on the grid,
+pub back-on : {m p : ℕ} (s : Bool) → Mpv m → Legal m p → OnGrid (stepsOf m) (back m s p)
 unfolding back
-grid-back false cent a = omega (arith, a .grid)
-grid-back false nickel a = omega (arith, a .grid, a .low)
-grid-back false dime a = omega (arith, a .grid, a .low)
-grid-back true cent a = omega (arith, a .grid)
-grid-back true nickel a = omega (arith, a .grid)
-grid-back true dime a = omega (arith, a .grid)
+back-on false v a = down-on (grid-of v) (a .grid) (positive v a)
+back-on true v a = up-on (grid-of v) (a .grid)
 
--- one step back is legal where some legal price is no more aggressive
+-- and is legal where some legal price is no more aggressive
 pub back-legal : {m p q : ℕ} (s : Bool) → Mpv m → Legal m p → Legal m q → seen s q ≤ seen s (back m s p) → Legal m (back m s p)
-unfolding seen back
-back-legal false v a b h = record { low = omega (arith, b); high = omega (arith, a); grid = grid-back false v a }
-back-legal true v a b h = record { low = omega (arith, a); high = omega (arith, b); grid = grid-back true v a }
+unfolding seen
+back-legal false v a b h = record { low = omega (arith, b .low, h); high = omega (arith, a .high, back-lt false v a); grid = back-on false v a }
+back-legal true v a b h = record { low = omega (arith, a .low, back-lt true v a); high = omega (arith, b .high, h); grid = back-on true v a }
 
 -- the last price is the least aggressive legal one, and to be past it is to be less aggressive
 pub last-legal : {m : ℕ} (s : Bool) → Mpv m → Legal m (lastPrice m s)
-unfolding lastPrice
-last-legal false cent = record { low = omega arith; high = omega arith; grid = refl }
-last-legal false nickel = record { low = omega arith; high = omega arith; grid = refl }
-last-legal false dime = record { low = omega arith; high = omega arith; grid = refl }
-last-legal true cent = record { low = omega arith; high = omega arith; grid = refl }
-last-legal true nickel = record { low = omega arith; high = omega arith; grid = refl }
-last-legal true dime = record { low = omega arith; high = omega arith; grid = refl }
+unfolding lastPrice onGrid
+last-legal false cent = record { low = omega arith; high = omega arith; grid = is-on-grid (stepsOf 1) 1 refl }
+last-legal false nickel = record { low = omega arith; high = omega arith; grid = is-on-grid (stepsOf 5) 5 refl }
+last-legal true cent = record { low = omega arith; high = omega arith; grid = is-on-grid (stepsOf 1) topPrice refl }
+last-legal true nickel = record { low = omega arith; high = omega arith; grid = is-on-grid (stepsOf 5) topPrice refl }
 
 pub within-last : (m p : ℕ) (s : Bool) → not (reaches s p (lastPrice m s)) ≡ false → seen s (lastPrice m s) ≤ seen s p
 within-last m p s e = reaches-true s p (lastPrice m s) (not-false (reaches s p (lastPrice m s)) e)
@@ -152,3 +175,48 @@ within-last m p s e = reaches-true s p (lastPrice m s) (not-false (reaches s p (
 pub past-last : {m : ℕ} (p : ℕ) (s : Bool) → Mpv m → p ≤ 200000 → not (reaches s p (lastPrice m s)) ≡ true → seen s p < seen s (lastPrice m s)
 past-last {m} p s v h e =
     reaches-false s p (lastPrice m s) h (omega (arith, last-legal s v .high)) (not-true (reaches s p (lastPrice m s)) e)
+
+-- ---- how many steps ----
+
+-- WHAT `apart` SAYS IS WHAT COUNTING ONE BY ONE GIVES: n steps back from l it says n, as long as they lead somewhere (below 0 there is nothing),
+pub counted : {m l : ℕ} (s : Bool) (n : ℕ) → Mpv m → Legal m l → (s ≡ false → n ≤ rung (stepsOf m) l) → apart m s l (after n (back m s) l) ≡ n
+unfolding apart back
+counted false n v a few = omega (arith, after-down (grid-of v) n (a .grid) (few refl) .1, few refl)
+counted true n v a few = omega (arith, after-up (grid-of v) n (a .grid) .1)
+
+-- as many steps as it says lead from l to every d of the grid that is no more aggressive,
+pub counted-to : {m l d : ℕ} (s : Bool) → Mpv m → Legal m l → OnGrid (stepsOf m) d → Aggressive s l d → after (apart m s l d) (back m s) l ≡ d
+unfolding apart back
+counted-to {m} {l} {d} false v a b h =
+    let r = after-down (grid-of v) (rung (stepsOf m) l - rung (stepsOf m) d) (a .grid) (omega arith) in
+    same-rung (grid-of v) (r .0) b (omega (arith, r .1, rung-mono (grid-of v) d l h))
+counted-to {m} {l} {d} true v a b h =
+    let r = after-up (grid-of v) (rung (stepsOf m) d - rung (stepsOf m) l) (a .grid) in
+    same-rung (grid-of v) (r .0) b (omega (arith, r .1, rung-mono (grid-of v) l d h))
+
+-- and it is more than k exactly where d lies short of the price k steps back
+pub counted-past : {m l d : ℕ} (s : Bool) (k : ℕ) → Mpv m → Legal m l → OnGrid (stepsOf m) d
+    → (k < apart m s l d → Short s d (after k (back m s) l)) × (Short s d (after k (back m s) l) → k < apart m s l d)
+unfolding apart back
+counted-past {m} {l} {d} false k v a b = go (leb k (rung (stepsOf m) l)) refl
+  where
+    g : Grid (stepsOf m)
+    g = grid-of v
+
+    go : (t : Bool) → leb k (rung (stepsOf m) l) ≡ t
+        → (k < rung (stepsOf m) l - rung (stepsOf m) d → d < after k (down (stepsOf m)) l)
+        × (d < after k (down (stepsOf m)) l → k < rung (stepsOf m) l - rung (stepsOf m) d)
+    go true e =
+        let r = after-down g k (a .grid) (leb-true k (rung (stepsOf m) l) e) in (
+          λ h. less-rung g d (after k (down (stepsOf m)) l) (omega (arith, r .1, h)),
+          λ h. omega (arith, r .1, rung-less g b (r .0) h),
+        )
+    go false e =
+        let past = leb-false k (rung (stepsOf m) l) e in
+        let z = after-end g k (a .grid) (omega (arith, past)) in
+        (λ h. absurd (omega (arith, past, h)), λ h. absurd (omega (arith, z, h)))
+counted-past {m} {l} {d} true k v a b =
+    let r = after-up (grid-of v) k (a .grid) in (
+      λ h. less-rung (grid-of v) (after k (up (stepsOf m)) l) d (omega (arith, r .1, h)),
+      λ h. omega (arith, r .1, rung-less (grid-of v) (r .0) b h),
+    )

@@ -1,7 +1,7 @@
 -- WHAT MAY NOT REST, IN PLAIN INEQUALITIES, both ways: a rest is told 20, 21, 23 or 22 exactly when that test holds and none before it does. What 21 says is
 -- the book's to say (crate arrival, HiddenLaws).
 -- Assumes nothing.
-use Prim.Native.Nat.{ℕ, _+_, _-_, _*_, _≤_, _<_}
+use Prim.Native.Nat.{ℕ, _+_, _-_, _≤_, _<_}
 use mathlib.Core.Path.{_≡_, refl}
 use mathlib.Core.Bool.{Bool, true, false, not, _&&_}
 use mathlib.Core.List.{List, [], _∷_}
@@ -12,7 +12,7 @@ use Rattle.lists.proofs.Bools.{clash, and-left, and-right}
 use Rattle.lists.proofs.FirstLaws.{Decides, AllDecide, TellsFirst, tells-first}
 use Rattle.kinds.specs.Kinds.{sliding, light}
 use Rattle.prices.specs.Side.{reaches}
-use Rattle.prices.specs.Step.{topPrice, lastPrice, apart, allowed}
+use Rattle.prices.specs.Step.{topPrice, stepsOf, lastPrice, rung, apart}
 use Rattle.prices.specs.Test.{holds, answers}
 use Rattle.prices.specs.Post.{test20, test21, test22, test23, stops, stopped}
 
@@ -101,30 +101,30 @@ decides-23 m kind true d = (
   λ f. rw (f .slides, lt-leb d topPrice (f .sell refl)),
 )
 
--- ---- 22: "a sliding kind's L minus display (sell: display minus L) exceeds K times M" ----
+-- ---- 22: "a sliding kind's L minus display (sell: display minus L) exceeds K times M", in steps: of those that lead from 0 up to either price ----
 
 pub record FarShown (m k kind : ℕ) (s : Bool) (l d : ℕ) : Type 0 where
   pub slides : sliding kind ≡ true
-  pub buy : s ≡ false → k * m + d < l
-  pub sell : s ≡ true → k * m + l < d
+  pub buy : s ≡ false → k + rung (stepsOf m) d < rung (stepsOf m) l
+  pub sell : s ≡ true → k + rung (stepsOf m) l < rung (stepsOf m) d
 
 pub decides-22 : (m k kind : ℕ) (s : Bool) (l d : ℕ) → Decides (holds s (test22 m k kind s l d)) (FarShown m k kind s l d)
-unfolding apart allowed
+unfolding apart
 decides-22 m k kind false l d = (
   λ h. record {
     slides = and-left (sliding kind) _ h;
-    buy = λ _. omega (arith, ltb-true (k * m) (l - d) (and-right (sliding kind) _ h));
+    buy = λ _. omega (arith, ltb-true k (rung (stepsOf m) l - rung (stepsOf m) d) (and-right (sliding kind) _ h));
     sell = λ q. clash q refl;
   },
-  λ f. rw (f .slides, lt-ltb (k * m) (l - d) (omega (arith, f .buy refl))),
+  λ f. rw (f .slides, lt-ltb k (rung (stepsOf m) l - rung (stepsOf m) d) (omega (arith, f .buy refl))),
 )
 decides-22 m k kind true l d = (
   λ h. record {
     slides = and-left (sliding kind) _ h;
     buy = λ q. clash refl q;
-    sell = λ _. omega (arith, ltb-true (k * m) (d - l) (and-right (sliding kind) _ h));
+    sell = λ _. omega (arith, ltb-true k (rung (stepsOf m) d - rung (stepsOf m) l) (and-right (sliding kind) _ h));
   },
-  λ f. rw (f .slides, lt-ltb (k * m) (d - l) (omega (arith, f .sell refl))),
+  λ f. rw (f .slides, lt-ltb k (rung (stepsOf m) d - rung (stepsOf m) l) (omega (arith, f .sell refl))),
 )
 
 -- ---- the reason that is told ----

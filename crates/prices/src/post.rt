@@ -4,13 +4,12 @@ use crate::protect::figures;
 use crate::side::is_reaching;
 use crate::step::distance;
 use crate::step::last_price;
-use crate::step::most_distant;
 use kinds::is_light;
 use kinds::is_sliding;
 ghost use mathlib.Core.Path.{_≡_};
 ghost use mathlib.Core.Bool.{true};
 ghost use mathlib.Core.List.{[], _∷_};
-ghost use Prim.Native.Nat.{ℕ, _≤_};
+ghost use Prim.Native.Nat.{ℕ};
 ghost use Rattle.lists.specs.Tests.{firstHolding};
 ghost use Rattle.prices.specs.Step.{mpv};
 ghost use Rattle.prices.specs.Test.{holds, figuresOf};
@@ -39,10 +38,10 @@ pub fn is_unshowable(m: u32, kind: u32, sell: bool, display: u32) -> bool
 
 // 22: it would be shown too far from its limit.
 pub fn is_too_distant(m: u32, k: u32, kind: u32, sell: bool, limit: u32, display: u32) -> bool
-    requires { ⌜ (mpv m ≡ true) × (k ≤ 100) ⌝ }
+    requires { ⌜ mpv m ≡ true ⌝ }
     ensures { λ r. ⌜ r ≡ holds sell (test22 m k kind sell limit display) ⌝ }
 {
-    is_sliding(kind) & (most_distant(m, k) < distance(sell, limit, display))
+    is_sliding(kind) & (k < distance(m, sell, limit, display))
 }
 
 // The reason of the first that applies, or 0.
@@ -75,7 +74,7 @@ pub fn stop_of(
     hidden: u32,
     display: u32,
 ) -> u32
-    requires { ⌜ (mpv m ≡ true) × (k ≤ 100) ⌝ }
+    requires { ⌜ mpv m ≡ true ⌝ }
     ensures { λ r. ⌜ r ≡ stopped m k kind sell limit away hidden display ⌝ }
 {
     let locking = is_locking(kind, sell, limit, away);
@@ -96,7 +95,7 @@ pub fn stop_figures(
     hidden: u32,
     display: u32,
 ) -> Figures
-    requires { ⌜ (mpv m ≡ true) × (k ≤ 100) ⌝ }
+    requires { ⌜ mpv m ≡ true ⌝ }
     ensures { λ r. ⌜ ((kind : ℕ) → r ≡ figuresOf rule (stops m k kind sell limit away hidden display)) ⌝ }
 {
     if rule == 20 {
@@ -109,7 +108,7 @@ pub fn stop_figures(
         return figures(display, last_price(m, sell));
     }
     if rule == 22 {
-        return figures(distance(sell, limit, display), most_distant(m, k));
+        return figures(distance(m, sell, limit, display), k);
     }
     figures(0, 0)
 }

@@ -1,27 +1,44 @@
-// The step. With the definitions of specs/Step, this is all that knows how long it is.
+// The grid. With the definitions of specs/Step, this is all that knows how long a step is.
 ghost use mathlib.Core.Path.{_≡_};
-ghost use mathlib.Core.Bool.{true};
-ghost use Prim.Native.Nat.{_-_, _≤_};
-ghost use Rattle.prices.specs.Step.{mpv, onGrid, legal, noneOrLegal, back, lastPrice, apart, allowed};
+ghost use mathlib.Core.Bool.{true, cond};
+ghost use Prim.Native.Nat.{_-_};
+ghost use Rattle.prices.specs.Step.{stepsOf, mpv, onGrid, legal, noneOrLegal, back, lastPrice, rung, apart};
 
 // The top of the legal prices.
 pub const TOP_PRICE: u32 = 100000;
 
+// Where the step changes: small ones below, large ones from here up.
+const CHANGE: u32 = 300;
+
+// Whether M names a pair of steps: 1 and 5 cents, or 5 and 10.
 pub fn is_mpv(m: u32) -> bool
     ensures { λ r. ⌜ r ≡ mpv m ⌝ }
 {
-    (m == 1) | ((m == 5) | (m == 10))
+    (m == 1) | (m == 5)
 }
 
-// By constant divisors: a division by m itself is slow. Most series have an M of 1, on whose grid every price lies.
+// The small step of the pair, which is M, or the large one.
+fn step_of(m: u32, fine: bool) -> u32
+    ensures { λ r. ⌜ r ≡ cond fine (stepsOf m .small) (stepsOf m .large) ⌝ }
+{
+    if fine {
+        return m;
+    }
+    if m == 1 { 5 } else { 10 }
+}
+
+// By constant divisors: a division by a step itself is slow. Most prices are below the change and have an M of 1, where every price lies on the grid.
 fn is_on_grid(m: u32, p: u32) -> bool
     requires { ⌜ mpv m ≡ true ⌝ }
-    ensures { λ r. ⌜ r ≡ onGrid m p ⌝ }
+    ensures { λ r. ⌜ r ≡ onGrid (stepsOf m) p ⌝ }
 {
-    if m == 1 {
-        return true;
+    if p < CHANGE {
+        return (m == 1) | (p % 5 == 0);
     }
-    ((m != 5) | (p % 5 == 0)) & ((m != 10) | (p % 10 == 0))
+    if m == 1 {
+        return p % 5 == 0;
+    }
+    p % 10 == 0
 }
 
 pub fn is_legal(m: u32, p: u32) -> bool
@@ -43,7 +60,10 @@ pub fn one_back(m: u32, sell: bool, p: u32) -> u32
     requires { ⌜ (mpv m ≡ true) × (legal m p ≡ true) ⌝ }
     ensures { λ r. ⌜ r ≡ back m sell p ⌝ }
 {
-    if sell { p + m } else { p - m }
+    if sell {
+        return p + step_of(m, p < CHANGE);
+    }
+    p - step_of(m, p <= CHANGE)
 }
 
 pub fn last_price(m: u32, sell: bool) -> u32
@@ -59,17 +79,25 @@ pub fn less(p: u32, q: u32) -> u32
     if p < q { 0 } else { p - q }
 }
 
-// How far a display d stands back from the limit.
-pub fn distance(sell: bool, limit: u32, d: u32) -> u32
-    ensures { λ r. ⌜ r ≡ apart sell limit d ⌝ }
+// How many steps lead from 0 up to p.
+fn rung_of(m: u32, p: u32) -> u32
+    requires { ⌜ mpv m ≡ true ⌝ }
+    ensures { λ r. ⌜ r ≡ rung (stepsOf m) p ⌝ }
 {
-    if sell { less(d, limit) } else { less(limit, d) }
+    let coarse = less(p, CHANGE);
+    let fine = p - coarse;
+    if m == 1 {
+        return fine + coarse / 5;
+    }
+    fine / 5 + coarse / 10
 }
 
-// How far it may.
-pub fn most_distant(m: u32, k: u32) -> u32
-    requires { ⌜ (mpv m ≡ true) × (k ≤ 100) ⌝ }
-    ensures { λ r. ⌜ r ≡ allowed m k ⌝ }
+// How many steps a display d stands back from the limit.
+pub fn distance(m: u32, sell: bool, limit: u32, d: u32) -> u32
+    requires { ⌜ mpv m ≡ true ⌝ }
+    ensures { λ r. ⌜ r ≡ apart m sell limit d ⌝ }
 {
-    k * m
+    let from = rung_of(m, limit);
+    let to = rung_of(m, d);
+    if sell { less(to, from) } else { less(from, to) }
 }

@@ -49,7 +49,7 @@ setup-legal bytes x h =
 pub legal-sound : (x : Setup) → legalSetup x ≡ true → soundSeries (newSeries x) ≡ true
 unfolding mpv soundEntries all pairs
 legal-sound x h =
-    let step : Bool = eqb (x .m) 1 || (eqb (x .m) 5 || eqb (x .m) 10) in
+    let step : Bool = eqb (x .m) 1 || eqb (x .m) 5 in
     let rest = and-right step (leb (x .k) 100 && between 1 topStrike (x .strike)) h in
     facts-series (newSeries x .terms) (replicate 16 false) []
     (record {

@@ -10,7 +10,7 @@ use lib.Dec.{eqb, leb}
 use lib.ListN.{length}
 use borrow.Author.Tests.{leb-true, le-leb, eqb-true, not-true}
 use Rattle.prices.specs.Step.{mpv, legal, noneOrLegal}
-use Rattle.prices.proofs.StepLaws.{Mpv, cent, nickel, dime, is-mpv}
+use Rattle.prices.proofs.StepLaws.{Mpv, cent, nickel, is-mpv}
 use Rattle.lists.specs.Tests.{any}
 use Rattle.lists.proofs.Bools.{and-parts}
 use Rattle.lists.proofs.PlaceLaws.{length-none}
@@ -28,16 +28,14 @@ use Rattle.packing.specs.Setup.{topStrike}
 
 -- ---- a series' numbers ----
 
-pub mpv-step : {m : ℕ} → Mpv m → (m ≡ 1) ⊎ ((m ≡ 5) ⊎ (m ≡ 10))
+pub mpv-step : {m : ℕ} → Mpv m → (m ≡ 1) ⊎ (m ≡ 5)
 mpv-step cent = inl refl
-mpv-step nickel = inr (inl refl)
-mpv-step dime = inr (inr refl)
+mpv-step nickel = inr refl
 
-pub step-mpv : {m : ℕ} → (m ≡ 1) ⊎ ((m ≡ 5) ⊎ (m ≡ 10)) → mpv m ≡ true
+pub step-mpv : {m : ℕ} → (m ≡ 1) ⊎ (m ≡ 5) → mpv m ≡ true
 unfolding mpv
 step-mpv (inl e) = rw e
-step-mpv (inr (inl e)) = rw e
-step-mpv (inr (inr e)) = rw e
+step-mpv (inr e) = rw e
 
 pub if-any-price : (m p : ℕ) → noneOrLegal m p ≡ true → NoneOrLegal m p
 unfolding noneOrLegal

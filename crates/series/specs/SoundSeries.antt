@@ -22,8 +22,8 @@ NoneOrLegal m p = (p ≡ 0) ⊎ LegalPrice m p
 
 -- "setup, phase and prices are legal"
 pub record LegalTerms (t : Terms) : Type 0 where
-  -- "the series' MPV: 1, 5 or 10"; "K, the configurable number of MPVs, is 0 to 100. Strike 1 to 100,000."
-  pub step : (t .m ≡ 1) ⊎ ((t .m ≡ 5) ⊎ (t .m ≡ 10))
+  -- "Setup M 10 is refused; 1 and 5 name the pairs."; "K, the configurable number of MPVs, is 0 to 100. Strike 1 to 100,000."
+  pub step : (t .m ≡ 1) ⊎ (t .m ≡ 5)
   pub steps : t .k ≤ 100
   pub strike : (1 ≤ t .strike) × (t .strike ≤ topStrike)
   -- "phase: 0 closed, 1 open, 2 halted"

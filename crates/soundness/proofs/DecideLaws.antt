@@ -10,11 +10,13 @@ use native.Mathlib.Omega.{arith}
 use borrow.Author.Tests.{leb-true, le-leb, eqb-true, eqb-false, eq-eqb, ne-eqb, ltb-true, ltb-false, lt-ltb, not-true}
 use lib.Dec.{eqb, leb, ltb}
 use lib.ListN.{drop}
-use Rattle.prices.specs.Step.{legal, back}
+use Rattle.prices.specs.Step.{stepsOf, up, down, legal, back}
 use Rattle.prices.specs.Side.{reaches}
 use Rattle.kinds.specs.Kinds.{sliding, dark}
 use Rattle.kinds.proofs.KindLaws.{dark-rigid}
 use Rattle.prices.specs.Rest.{slides}
+use Rattle.prices.proofs.FrameLaws.{decides-reaches}
+use Rattle.prices.proofs.GridLaws.{below-or-from, to-or-past, up-fine, up-coarse, down-fine, down-coarse}
 use Rattle.prices.proofs.StepLaws.{is-legal, legal-is}
 use Rattle.lists.specs.Places.{At}
 use Rattle.lists.specs.Tests.{all, pairs}
@@ -26,49 +28,62 @@ use Rattle.book.specs.declared.Pricing.the-variants.{Fixed, Dark, Sliding}
 use Rattle.book.specs.Entries.{quote}
 use Rattle.soundness_theory.specs.Sound.{between, pricedAs, soundEntry, distinct, oneQuote, uncrossed, uncrossedAs, soundPair}
 use Rattle.soundness_theory.proofs.SoundFacts.{between-both, both-between}
-use Rattle.soundness.specs.SoundBook.{LegalPrice, SoundSlide, Quote, SlidingKind, DarkKind, FixedKind}
+use Rattle.soundness.specs.SoundBook.{LegalPrice, AtMostOneStep, SoundSlide, Quote, SlidingKind, DarkKind, FixedKind}
 use Rattle.soundness.specs.SoundBook.{Numbered, LegalFigures, SoundPrices, Distinct, OneQuote, Uncrossed}
 use Rattle.soundness.proofs.ClauseLaws.{clauses-of, of-clauses}
 
 -- ---- prices ----
 
 pub legal-price : (m p : ℕ) → legal m p ≡ true → LegalPrice m p
-legal-price m p h = let a = is-legal m p h in record { from = a .low; to = a .high; multiple = a .grid }
+legal-price m p h = let a = is-legal m p h in record { from = a .low; to = a .high; under = a .grid .fine; upward = a .grid .coarse }
 
 pub price-legal : (m p : ℕ) → LegalPrice m p → legal m p ≡ true
-price-legal m p a = legal-is (record { low = a .from; high = a .to; grid = a .multiple })
+price-legal m p a = legal-is (record { low = a .from; high = a .to; grid = record { fine = a .under; coarse = a .upward } })
+
+-- at most one step, as a test: q is no less aggressive than one step back from p
+one-step : (m : ℕ) (s : Bool) (p q : ℕ) → reaches s q (back m s p) ≡ true → AtMostOneStep m s p q
+unfolding back
+one-step m false p q h =
+    let k = decides-reaches false q (down (stepsOf m) p) .0 h in
+    (λ c. omega (arith, k, down-fine (stepsOf m) p c), λ c. omega (arith, k, down-coarse (stepsOf m) p c))
+one-step m true p q h =
+    let k = decides-reaches true q (up (stepsOf m) p) .0 h in
+    (λ c. omega (arith, k, up-fine (stepsOf m) p c), λ c. omega (arith, k, up-coarse (stepsOf m) p c))
+
+step-one : (m : ℕ) (s : Bool) (p q : ℕ) → AtMostOneStep m s p q → reaches s q (back m s p) ≡ true
+unfolding back
+step-one m false p q f =
+    decides-reaches false q (down (stepsOf m) p) .1
+    (⊎-elim (λ c. omega (arith, f .0 c, down-fine (stepsOf m) p c)) (λ c. omega (arith, f .1 c, down-coarse (stepsOf m) p c)) (to-or-past p))
+step-one m true p q f =
+    decides-reaches true q (up (stepsOf m) p) .1
+    (⊎-elim (λ c. omega (arith, f .0 c, up-fine (stepsOf m) p c)) (λ c. omega (arith, f .1 c, up-coarse (stepsOf m) p c)) (below-or-from p))
 
 module _ (m l d w : ℕ) where
   slide-facts : (s : Bool) → slides m s l d w ≡ true → SoundSlide m s l d w
-  unfolding slides reaches back
+  unfolding slides
   slide-facts s h =
       let far = reaches s w d && (reaches s d (back m s w) && reaches s l w) in
       let h₁ = and-right (legal m d) (legal m w && far) h in
       let h₂ = and-right (legal m w) far h₁ in
       let h₃ = and-right (reaches s w d) (reaches s d (back m s w) && reaches s l w) h₂ in
-      sides s (legal-price m d (and-left (legal m d) (legal m w && far) h)) (legal-price m w (and-left (legal m w) far h₁))
-      (and-left (reaches s w d) (reaches s d (back m s w) && reaches s l w) h₂)
-      (and-left (reaches s d (back m s w)) (reaches s l w) h₃) (and-right (reaches s d (back m s w)) (reaches s l w) h₃)
-    where
-      sides : (s : Bool) → LegalPrice m d → LegalPrice m w → reaches s w d ≡ true → reaches s d (back m s w) ≡ true → reaches s l w ≡ true
-          → SoundSlide m s l d w
-      sides false a b x y z =
-          record { shown = a; works = b; aggressive = leb-true d w x; near = omega (arith, leb-true (w - m) d y); inside = leb-true w l z }
-      sides true a b x y z =
-          record { shown = a; works = b; aggressive = leb-true w d x; near = leb-true d (w + m) y; inside = leb-true l w z }
+      record {
+        shown = legal-price m d (and-left (legal m d) (legal m w && far) h);
+        works = legal-price m w (and-left (legal m w) far h₁);
+        aggressive = decides-reaches s w d .0 (and-left (reaches s w d) (reaches s d (back m s w) && reaches s l w) h₂);
+        near = one-step m s w d (and-left (reaches s d (back m s w)) (reaches s l w) h₃);
+        inside = decides-reaches s l w .0 (and-right (reaches s d (back m s w)) (reaches s l w) h₃);
+      }
 
   facts-slide : (s : Bool) → SoundSlide m s l d w → slides m s l d w ≡ true
-  unfolding slides reaches back
-  facts-slide false f =
-      and-both (legal m d) (legal m w && (leb d w && (leb (w - m) d && leb w l))) (price-legal m d (f .shown))
-      (and-both (legal m w) (leb d w && (leb (w - m) d && leb w l)) (price-legal m w (f .works))
-      (and-both (leb d w) (leb (w - m) d && leb w l) (le-leb d w (f .aggressive))
-      (and-both (leb (w - m) d) (leb w l) (le-leb (w - m) d (omega (arith, f .near))) (le-leb w l (f .inside)))))
-  facts-slide true f =
-      and-both (legal m d) (legal m w && (leb w d && (leb d (w + m) && leb l w))) (price-legal m d (f .shown))
-      (and-both (legal m w) (leb w d && (leb d (w + m) && leb l w)) (price-legal m w (f .works))
-      (and-both (leb w d) (leb d (w + m) && leb l w) (le-leb w d (f .aggressive))
-      (and-both (leb d (w + m)) (leb l w) (le-leb d (w + m) (f .near)) (le-leb l w (f .inside)))))
+  unfolding slides
+  facts-slide s f = rw (
+    price-legal m d (f .shown),
+    price-legal m w (f .works),
+    decides-reaches s w d .1 (f .aggressive),
+    step-one m s w d (f .near),
+    decides-reaches s l w .1 (f .inside),
+  )
 
 -- ---- kinds ----
 

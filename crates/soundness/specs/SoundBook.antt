@@ -5,7 +5,7 @@ use Prim.Native.Nat.{ℕ, _+_, _≤_, _<_, _%_}
 use mathlib.Core.Path.{_≡_}
 use mathlib.Core.Bool.{Bool, true, false}
 use Rattle.prices.specs.Side.{Aggressive}
-use Rattle.prices.specs.Step.{topPrice}
+use Rattle.prices.specs.Step.{topPrice, change, stepsOf}
 use Rattle.kinds.specs.Kinds.{enters, quotes, sliding, dark}
 use Rattle.lists.specs.Places.{At}
 use Rattle.book.specs.declared.Entry.{Entry}
@@ -13,23 +13,25 @@ use Rattle.book.specs.declared.Book.{Book}
 use Rattle.book.specs.declared.Pricing.the-variants.{Fixed, Dark, Sliding}
 use Rattle.book.specs.Shape.{zeroEntry, entriesOf}
 
--- "Prices are cents, from M to 100,000 and multiples of M"
+-- "Prices are cents, from M to 100,000"; "Under 3.00 a series moves by the small step and from 3.00 up by the large one", M being the small one
 pub record LegalPrice (m p : ℕ) : Type 0 where
   pub from : m ≤ p
   pub to : p ≤ topPrice
-  pub multiple : p % m ≡ 0
+  pub under : p < change → p % stepsOf m .small ≡ 0
+  pub upward : change ≤ p → p % stepsOf m .large ≡ 0
 
--- p is more aggressive than q by at most m
-abbrev pub AtMost : ℕ → Bool → ℕ → ℕ → Type 0
-AtMost m false p q = p ≤ q + m
-AtMost m true p q = q ≤ p + m
+-- p is more aggressive than q by at most one step: for a buy the one that leads down from p, for a sell the one that leads up
+abbrev pub AtMostOneStep : ℕ → Bool → ℕ → ℕ → Type 0
+AtMostOneStep m false p q = (p ≤ change → p ≤ q + stepsOf m .small) × (change < p → p ≤ q + stepsOf m .large)
+AtMostOneStep m true p q = (p < change → q ≤ p + stepsOf m .small) × (change ≤ p → q ≤ p + stepsOf m .large)
 
--- "for MMALO and MMRP, display and working price are legal, working is no less aggressive than display, by at most M, and not beyond the limit"
+-- "for MMALO and MMRP, display and working price are legal, working is no less aggressive than display, by at most M, and not beyond the limit"; "a working
+-- price is at most one step past its display"
 pub record SoundSlide (m : ℕ) (s : Bool) (limit display working : ℕ) : Type 0 where
   pub shown : LegalPrice m display
   pub works : LegalPrice m working
   pub aggressive : Aggressive s working display
-  pub near : AtMost m s working display
+  pub near : AtMostOneStep m s working display
   pub inside : Aggressive s limit working
 
 -- the kinds, by the table of crate kinds: quotes; and by what is asked of their prices, those that slide, MMALO and MMRP, those that are dark, and the others,

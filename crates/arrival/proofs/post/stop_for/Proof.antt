@@ -22,7 +22,7 @@ kind-of-requires : tie.Need-kind-of-requires
 kind-of-requires c κs = search needs
 
 stop-of-requires : tie.Need-stop-of-requires
-stop-of-requires c κs = let start : tie.Start = search in (start .pre .bounds .step, start .pre .steps)
+stop-of-requires c κs = let start : tie.Start = search in start .pre .bounds .step
 
 returns : tie.Need-returns
 unfolding stopFor stopped

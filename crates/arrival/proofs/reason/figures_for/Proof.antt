@@ -35,7 +35,7 @@ away-of-requires : tie.Need-away-of-requires
 away-of-requires c κs = search needs
 
 stop-figures-requires : tie.Need-stop-figures-requires
-stop-figures-requires c κs = let start : tie.Start = search in (start .pre .posts .bounds .step, start .pre .posts .steps)
+stop-figures-requires c κs = let start : tie.Start = search in start .pre .posts .bounds .step
 
 returns-2 : tie.Need-returns-2
 returns-2 c =

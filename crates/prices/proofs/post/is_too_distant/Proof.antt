@@ -5,18 +5,14 @@ use Rattle.prices.proofs.post.is_too_distant.Tie as tie
 is-sliding-requires : tie.Need-is-sliding-requires
 is-sliding-requires c κs = search needs
 
-most-distant-requires : tie.Need-most-distant-requires
-most-distant-requires c κs = search needs
-
 distance-requires : tie.Need-distance-requires
 distance-requires c κs = search needs
 
 returns : tie.Need-returns
 returns c =
-    let at-most-distant : tie.After-most-distant = search in
     let at-is-sliding : tie.After-is-sliding = search in
-    rw (c .distance .ensures, at-most-distant .most-distant .ensures, at-is-sliding .is-sliding .ensures)
+    rw (c .distance .ensures, at-is-sliding .is-sliding .ensures)
 
 pub is-too-distant-spec : {M : Type 1} → statement M
 is-too-distant-spec =
-    tie.close (tie.spec is-sliding-requires most-distant-requires distance-requires returns)
+    tie.close (tie.spec is-sliding-requires distance-requires returns)

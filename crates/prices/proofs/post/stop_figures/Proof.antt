@@ -38,24 +38,16 @@ returns-3 c =
 distance-requires : tie.Need-distance-requires
 distance-requires c κs = search needs
 
-most-distant-requires : tie.Need-most-distant-requires
-most-distant-requires c κs = search needs
-
 figures-requires-4 : tie.Need-figures-requires-4
 figures-requires-4 c κs = search needs
 
 returns-4 : tie.Need-returns-4
 unfolding figuresOf
 returns-4 c =
-    let at-most-distant : tie.After-most-distant = search in
     let at-distance : tie.After-distance = search in
     let at-if4 : tie.Then4 = search in
     λ _.
-    rw (
-      at-if4 .if4 .taken,
-      ← at-distance .distance .ensures,
-      ← at-most-distant .most-distant .ensures,
-    ) (c .figures4 .ensures)
+    rw (at-if4 .if4 .taken, ← at-distance .distance .ensures) (c .figures4 .ensures)
 
 figures-requires-5 : tie.Need-figures-requires-5
 figures-requires-5 c κs = search needs
@@ -87,7 +79,6 @@ stop-figures-spec =
     figures-requires-3
     returns-3
     distance-requires
-    most-distant-requires
     figures-requires-4
     returns-4
     figures-requires-5

@@ -16,7 +16,7 @@ is-mpv-requires c κs = search needs
 stop-figures-requires : tie.Need-stop-figures-requires
 stop-figures-requires c κs =
     let at-is-mpv : tie.After-is-mpv = search in
-    (sym (at-is-mpv .is-mpv .ensures) ∙ c .if2 .taken, omega arith)
+    sym (at-is-mpv .is-mpv .ensures) ∙ c .if2 .taken
 
 both-requires : tie.Need-both-requires
 both-requires c κs = search needs

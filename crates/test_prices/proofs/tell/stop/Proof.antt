@@ -16,7 +16,7 @@ is-mpv-requires c κs = search needs
 stop-of-requires : tie.Need-stop-of-requires
 stop-of-requires c κs =
     let at-is-mpv : tie.After-is-mpv = search in
-    (sym (at-is-mpv .is-mpv .ensures) ∙ c .if2 .taken, omega arith)
+    sym (at-is-mpv .is-mpv .ensures) ∙ c .if2 .taken
 
 number-requires : tie.Need-number-requires
 number-requires c κs = search needs
