@@ -87,7 +87,7 @@ def pack_setup(put, exempt, m, k, strike):
 
 
 def legal_setup(m, k, strike):
-    return m in (1, 5, 10) and 0 <= k <= 100 and 1 <= strike <= 100_000
+    return m in (1, 5) and 0 <= k <= 100 and 1 <= strike <= 100_000
 
 
 def messages_of(data):

@@ -1,7 +1,8 @@
-"""Small words the model is written in: the mirror, binding prices, entries, reports."""
+"""Small words the model is written in: the mirror, binding prices, one step, entries, reports."""
 
 import tools
 from packed import *
+from steps import down, up
 
 
 def seen(side, price):
@@ -15,8 +16,11 @@ def least(*prices):
     return min(binding) if binding else None
 
 
-def less(price, m):
-    return None if price is None else price - m
+def behind(m, side, price):
+    """One step less aggressive than `price`, both as `side` sees them: a buy's step leads down, a sell's up. None stays."""
+    if price is None:
+        return None
+    return seen(side, down(m, seen(side, price)) if side == BUY else up(m, seen(side, price)))
 
 
 class Entry:

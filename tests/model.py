@@ -1,27 +1,30 @@
 #!/usr/bin/env python3
-"""A plain model of document 01: one option series on one exchange.
+"""A plain model of document 01, with the steps of document 02, 2: one option series on one exchange.
 
     python3 tests/model.py [--no-checks] [--book | --why] [FILE]
 
 prints what the session program must print for FILE (standard input without
 FILE); with --book the book after each message (shown_book.py), with --why the
 reason of each report (told_why.py).  The model is written from document 01
-(what a reason tells: from document 02, 1) and is meant to be read beside it.  It favours the document's own words over speed.
+(what a reason tells: from document 02, 1; steps: from document 02, 2, in steps.py) and is meant to be read
+beside it.  It favours the document's own words over speed.
 
 The document words its rules for a buy and calls a sell the mirror image.  Here
 the mirror is the function `seen`: a buy sees prices as they are, a sell sees
 them negated.  Seen so, "higher" means more aggressive on both sides and each
 rule is written once, for a buy.  Only rules that differ between the sides, or
-name a fixed price, are spelled out as a pair.
+name a fixed price, are spelled out as a pair.  One step is such a rule, since it
+changes at 300: `behind` is one step down for a buy and one step up for a sell.
 """
 
 import tools
 import sys
 
-from entries import Entry, least, less, report, seen
+from entries import Entry, behind, least, report, seen
 from packed import *
 from printed import view_lines
 from soundness import promises_kept, unsound
+from steps import legal, small, steps_between
 from told_why import all_tests, posting_tests
 
 
@@ -43,9 +46,6 @@ class Series:
         self.steps = {}         # of the message being handled: kind of step -> count
 
     # ---- what the rules ask of the book
-
-    def legal_price(self, price):
-        return self.m <= price <= TOP_PRICE and price % self.m == 0
 
     def resting(self, side):
         return [entry for entry in self.book if entry.side == side]
@@ -73,10 +73,11 @@ class Series:
 
     def aims(self, kind, side, limit):
         """Display and working aim of a sliding kind, as it sees prices."""
-        l, a, c, m = seen(side, limit), self.a(side), self.c(side), self.m
+        l, a, c = seen(side, limit), self.a(side), self.c(side)
+        behind_a, behind_c = behind(self.m, side, a), behind(self.m, side, c)
         if kind == MMALO:
-            return least(l, less(a, m), less(c, m)), least(l, a, less(c, m))
-        return least(l, less(a, m)), least(l, a)
+            return least(l, behind_a, behind_c), least(l, a, behind_c)
+        return least(l, behind_a), least(l, a)
 
     def marketable(self, entry):
         if entry.kind != MMRP:
@@ -175,9 +176,9 @@ class Series:
             makers_only = quote or kind in (CANCEL_QUOTE, ENABLE)
             if not 1 <= msg.party <= (TOP_MAKER if makers_only else TOP_PARTY):
                 return 2
-        if entering and not self.legal_price(msg.price):
+        if entering and not legal(self.m, msg.price):
             return 3
-        if kind == AWAY and not all(price == 0 or self.legal_price(price)
+        if kind == AWAY and not all(price == 0 or legal(self.m, price)
                                     for price in (msg.price, msg.second)):
             return 3
         if kind == UNDERLYING and msg.price > TOP_PRICE:
@@ -308,10 +309,10 @@ class Series:
                                           if not contra.displayed()):
                 return 21
             return 0
-        display = self.aims(entry.kind, side, entry.limit)[0]
-        if seen(side, display) < self.m if side == BUY else seen(side, display) > TOP_PRICE:
+        display = seen(side, self.aims(entry.kind, side, entry.limit)[0])
+        if display < small(self.m) if side == BUY else display > TOP_PRICE:
             return 23
-        return 22 if l - display > self.k * self.m else 0
+        return 22 if steps_between(self.m, entry.limit, display) > self.k else 0
 
     # ---- settling
 

@@ -1,21 +1,50 @@
-"""The price rules, from the words of document 01 alone, once for a buy and once for a sell, so that a slip in one shows against the other; and the figures
-that they compare, from those of document 02's first request, which must hold just where the rule does (figure_vectors.py).
+"""The price rules, from the words of document 01 and the steps of document 02, 2, once for a buy and once for a sell, so that a slip in one shows against the
+other; and the figures that they compare, from those of document 02's first request, which must hold just where the rule does (figure_vectors.py).
+
+Steps are told here by a ladder, on which every price of a series stands in its order: one step leads to the next rung. steps.py, by which the model goes,
+reckons them.
 
 price_vectors.py puts its questions to `ASK`, by name; a rule answers None for a question outside what it is for.
 """
 
 PLAIN, MMLO, MMALO, MMRP, DISPLAYED, DARK = 1, 2, 3, 4, 5, 6
 BUY, SELL = 0, 1
-MPVS = (1, 5, 10)
 MOST = 4294967295
 NONE = 0
 
 
-# ---- document 01, "Numbers" ----
+# ---- document 02, 2: "Under 3.00 a series moves by the small step and from 3.00 up by the large one: 1 and 5 cents, or 5 and 10." ----
+
+# The prices of each pair, from the lowest to the highest, between the two to which one step may lead: 0, and one large step above 100,000.
+LADDERS = {
+    1: [0, *range(1, 300), *range(300, 100000 + 1, 5), 100005],
+    5: [0, *range(5, 300, 5), *range(300, 100000 + 1, 10), 100010],
+}
+RUNGS = {m: {price: rung for rung, price in enumerate(ladder)} for m, ladder in LADDERS.items()}
+MPVS = tuple(LADDERS)
+
 
 def legal(m, price):
-    """Prices are cents, from M to 100,000 and multiples of M."""
-    return m <= price <= 100000 and price % m == 0
+    """On the ladder, but at neither end."""
+    return price in RUNGS[m] and price not in (LADDERS[m][0], LADDERS[m][-1])
+
+
+def lowest(m):
+    """The lowest price, which is the small step."""
+    return LADDERS[m][1]
+
+
+def next_below(m, price):
+    return LADDERS[m][RUNGS[m][price] - 1]
+
+
+def next_above(m, price):
+    return LADDERS[m][RUNGS[m][price] + 1]
+
+
+def apart(m, low, high):
+    """How many steps lead up from one to the other."""
+    return RUNGS[m][high] - RUNGS[m][low]
 
 
 def none_or_legal(m, price):
@@ -28,11 +57,11 @@ def none_or_legal(m, price):
 def buy_aims(m, kind, limit, away_offer, lowest_sell):
     display, working = [limit], [limit]
     if away_offer != NONE:
-        display.append(away_offer - m)
+        display.append(next_below(m, away_offer))
         working.append(away_offer)
     if kind == MMALO and lowest_sell != NONE:
-        display.append(lowest_sell - m)
-        working.append(lowest_sell - m)
+        display.append(next_below(m, lowest_sell))
+        working.append(next_below(m, lowest_sell))
     return min(display), min(working)
 
 
@@ -52,7 +81,7 @@ def buy_eased(away_offer, display, working):
 
 
 def buy_sound(m, limit, display, working):
-    return legal(m, display) and legal(m, working) and working >= display and working - display <= m and working <= limit
+    return legal(m, display) and legal(m, working) and working in (display, next_above(m, display)) and working <= limit
 
 
 # ---- the same for a sell, the mirror image: L the limit, B the away bid, C the highest working price of any buy ----
@@ -60,11 +89,11 @@ def buy_sound(m, limit, display, working):
 def sell_aims(m, kind, limit, away_bid, highest_buy):
     display, working = [limit], [limit]
     if away_bid != NONE:
-        display.append(away_bid + m)
+        display.append(next_above(m, away_bid))
         working.append(away_bid)
     if kind == MMALO and highest_buy != NONE:
-        display.append(highest_buy + m)
-        working.append(highest_buy + m)
+        display.append(next_above(m, highest_buy))
+        working.append(next_above(m, highest_buy))
     return max(display), max(working)
 
 
@@ -84,7 +113,7 @@ def sell_eased(away_bid, display, working):
 
 
 def sell_sound(m, limit, display, working):
-    return legal(m, display) and legal(m, working) and working <= display and display - working <= m and working >= limit
+    return legal(m, display) and legal(m, working) and working in (display, next_below(m, display)) and working >= limit
 
 
 # ---- document 01, "Arrival": price protection. Offers are no mirror image of bids here ----
@@ -125,9 +154,9 @@ def buy_stop(m, k, kind, limit, away_offer, hidden_sell, display):
         return 20
     if kind == MMLO and hidden_sell != NONE and hidden_sell <= limit:
         return 21
-    if slides and display < m:
+    if slides and display < lowest(m):
         return 23
-    if slides and limit - display > k * m:
+    if slides and apart(m, display, limit) > k:
         return 22
     return 0
 
@@ -140,7 +169,7 @@ def sell_stop(m, k, kind, limit, away_bid, hidden_buy, display):
         return 21
     if slides and display > 100000:
         return 23
-    if slides and display - limit > k * m:
+    if slides and apart(m, limit, display) > k:
         return 22
     return 0
 
@@ -153,9 +182,9 @@ def stop_figures(rule, m, k, side, limit, away, hidden, display):
     if rule == 21:
         return limit, hidden
     if rule == 22:
-        return limit - display if side == BUY else display - limit, k * m
+        return apart(m, display, limit) if side == BUY else apart(m, limit, display), k
     if rule == 23:
-        return display, m if side == BUY else 100000
+        return display, lowest(m) if side == BUY else 100000
     return 0, 0
 
 

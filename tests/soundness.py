@@ -5,25 +5,21 @@ Both answer with a word for the first thing wrong, "" when nothing is.
 
 import tools
 from packed import *
+from steps import legal, steps_between
 
 
 def unsound(series):
     """The first reason why the state is not sound, or ""."""
-    m, book = series.m, series.book
-
-    def legal(price):
-        return m <= price <= TOP_PRICE and price % m == 0
-
-    return unsound_numbers(series, legal) or unsound_entries(series, legal) or crossed(book)
+    return unsound_numbers(series) or unsound_entries(series) or crossed(series.book)
 
 
-def unsound_numbers(series, legal):
+def unsound_numbers(series):
     phase, book = series.phase, series.book
     if not legal_setup(series.m, series.k, series.strike):
         return "setup"
     if phase not in (CLOSED, OPEN, HALTED):
         return "phase"
-    if any(price != 0 and not legal(price) for price in (series.away_bid, series.away_offer)):
+    if any(price != 0 and not legal(series.m, price) for price in (series.away_bid, series.away_offer)):
         return "away price"
     if not 0 <= series.underlying <= TOP_PRICE:
         return "underlying price"
@@ -42,14 +38,14 @@ def unsound_numbers(series, legal):
     return ""
 
 
-def unsound_entries(series, legal):
+def unsound_entries(series):
     quotes = set()
     for entry in series.book:
         if not 1 <= entry.number <= series.given:
             return "entry number not among those given"
         if entry.kind not in ENTERING or entry.side not in (BUY, SELL):
             return "kind or side"
-        if not legal(entry.limit):
+        if not legal(series.m, entry.limit):
             return "limit"
         if not 1 <= entry.quantity <= TOP_QUANTITY:
             return "quantity"
@@ -61,7 +57,7 @@ def unsound_entries(series, legal):
             if (entry.party, entry.side) in quotes:
                 return "two quotes of one maker and side"
             quotes.add((entry.party, entry.side))
-        wrong = unsound_prices(entry, series.m, legal)
+        wrong = unsound_prices(entry, series.m)
         if wrong:
             return wrong
     return ""
@@ -75,20 +71,20 @@ def crossed(book):
     return ""
 
 
-def unsound_prices(entry, m, legal):
+def unsound_prices(entry, m):
     if entry.kind == DARK:
         return "" if (entry.display, entry.working) == (0, entry.limit) else "dark prices"
     if entry.kind not in SLIDING:
         same = entry.display == entry.working == entry.limit
         return "" if same else "prices apart from the limit"
-    if not legal(entry.display) or not legal(entry.working):
+    if not legal(m, entry.display) or not legal(m, entry.working):
         return "a sliding entry's prices"
     # Less aggressive first: display, working, limit.
     if entry.side == BUY:
         ordered = entry.display <= entry.working <= entry.limit
     else:
         ordered = entry.display >= entry.working >= entry.limit
-    if not ordered or abs(entry.working - entry.display) > m:
+    if not ordered or steps_between(m, entry.display, entry.working) > 1:
         return "a sliding entry's prices to each other"
     return ""
 

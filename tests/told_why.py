@@ -19,7 +19,7 @@ from collections import namedtuple
 from operator import ge, gt, le, lt
 
 from packed import *
-from price_rules import best_bid, best_offer, buy_aims, sell_aims
+from price_rules import apart, best_bid, best_offer, buy_aims, lowest, sell_aims
 
 # When a rule's comparison holds: of a buy, of a sell.  25 and 26 are for bids alone.
 HOLDS = {25: (ge, None), 26: (ge, None), 24: (ge, ge), 20: (ge, le), 21: (ge, le), 23: (lt, gt), 22: (gt, gt)}
@@ -84,10 +84,10 @@ def buy_posting_tests(series, kind, limit):
         if kind == MMLO and undisplayed(series, SELL):
             yield Test(21, BUY, limit, min(undisplayed(series, SELL)))
         return
-    lowest = min(working(series, SELL), default=0)
-    display, _ = buy_aims(series.m, kind, limit, series.away_offer, lowest)
-    yield Test(23, BUY, display, series.m)
-    yield Test(22, BUY, limit - display, series.k * series.m)
+    lowest_sell = min(working(series, SELL), default=0)
+    display, _ = buy_aims(series.m, kind, limit, series.away_offer, lowest_sell)
+    yield Test(23, BUY, display, lowest(series.m))
+    yield Test(22, BUY, apart(series.m, display, limit), series.k)
 
 
 def sell_posting_tests(series, kind, limit):
@@ -97,10 +97,10 @@ def sell_posting_tests(series, kind, limit):
         if kind == MMLO and undisplayed(series, BUY):
             yield Test(21, SELL, limit, max(undisplayed(series, BUY)))
         return
-    highest = max(working(series, BUY), default=0)
-    display, _ = sell_aims(series.m, kind, limit, series.away_bid, highest)
+    highest_buy = max(working(series, BUY), default=0)
+    display, _ = sell_aims(series.m, kind, limit, series.away_bid, highest_buy)
     yield Test(23, SELL, display, TOP_PRICE)
-    yield Test(22, SELL, display - limit, series.k * series.m)
+    yield Test(22, SELL, apart(series.m, limit, display), series.k)
 
 
 def posting_tests(series, entry):
