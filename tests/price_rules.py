@@ -34,12 +34,17 @@ def lowest(m):
     return LADDERS[m][1]
 
 
+def climbed(m, price, steps):
+    """So many steps up; down, where they are fewer than 0."""
+    return LADDERS[m][RUNGS[m][price] + steps]
+
+
 def next_below(m, price):
-    return LADDERS[m][RUNGS[m][price] - 1]
+    return climbed(m, price, -1)
 
 
 def next_above(m, price):
-    return LADDERS[m][RUNGS[m][price] + 1]
+    return climbed(m, price, 1)
 
 
 def apart(m, low, high):

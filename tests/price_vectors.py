@@ -6,11 +6,12 @@
     python3 tests/price_vectors.py --list     prints each question and its answer, as text
 
 Run it from anywhere. It needs nothing but Python 3, and it runs no program of this repository: the answers are worked out in price_rules.py, from the words of
-document 01, once for a buy and once for a sell, and for the figures of a rule from those of document 02, 1. The gate runs the crate test_prices on the one
-file and compares what it prints with the other.
+document 01 and the steps of document 02, 2, once for a buy and once for a sell, and for the figures of a rule from those of document 02, 1. The gate runs the
+crate test_prices on the one file and compares what it prints with the other.
 
 A question is nine numbers of four bytes, most significant first: what is asked, and eight figures, zero where there are fewer.
-Its answer is one line. `-` stands for a question outside what the rule asked is for.
+Its answer is one line. `-` stands for a question outside what the rule asked is for. M is 1 or 5 and names its pair of steps. Whoever asks for a stop or its
+figures of a sliding kind names a limit that is legal and a display that is legal or one step outside, not beyond the limit: there are no steps to any other.
 
     1 aims           kind side limit away contra M                      refusal, display aim, working aim
     2 protection     put exempt strike underlying side best limit       25, 26, 24 or 0
@@ -31,7 +32,8 @@ import sys
 
 from figure_vectors import figures_at_edges, figures_told
 from price_questions import TABLE, add, add_both
-from price_rules import ASK, BUY, DARK, DISPLAYED, MMALO, MMLO, MMRP, MOST, MPVS, NONE, PLAIN, SELL, buy_aims, sell_aims
+from price_rules import ASK, BUY, DARK, DISPLAYED, LADDERS, MMALO, MMLO, MMRP, MOST, MPVS, NONE, PLAIN, RUNGS, SELL, buy_aims, climbed, lowest, sell_aims
+from step_vectors import about_three_dollars
 from tables import keep
 
 # ---- the class examples, as far as they are about prices ----
@@ -93,7 +95,7 @@ def worked_session():
 
 # ---- the request for aims at its edges ----
 
-# a limit, an away price and a contra price that are legal whatever the MPV
+# a limit, an away price and a contra price that are legal whatever the pair
 MIDDLING = (50000, 49990, 49970)
 
 
@@ -109,7 +111,7 @@ def refusals():
                 add("aims", kind, side, *MIDDLING, m)
     # each price at its edges, the others legal; the limit must be there, the other two may be 0
     for m in MPVS:
-        edges = sorted({0, 1, m - 1, m, m + 1, 2 * m, 49990 + m // 2, 99999, 100000 - m, 100000, 100001, 100000 + m, MOST})
+        edges = sorted({0, 1, m - 1, m, m + 1, 295, 299, 300, 301, 305, 310, 49990 + m, 99999, 99995, 100000, 100001, climbed(m, 100000, 1), MOST})
         for kind in (MMALO, MMRP):
             for side in (BUY, SELL):
                 for place in range(3):
@@ -126,19 +128,21 @@ def refusals():
 
 
 def outside():
-    # an aim may fall one M outside the legal prices: 0 for a buy, 100,000+M for a sell
+    # an aim may fall one step outside the legal prices: 0 for a buy, 100,000 and one large step for a sell
     for m in MPVS:
         for kind in (MMALO, MMRP):
-            for limit in (m, 100000):
-                for away in (NONE, m, 2 * m):
-                    for contra in (NONE, m, 2 * m):
+            for limit in (lowest(m), 100000):
+                for away in (0, 1, 2):
+                    for contra in (0, 1, 2):
+                        add("aims", kind, BUY, limit, climbed(m, 0, away), climbed(m, 0, contra), m)
+                        add("aims", kind, SELL, limit, *(climbed(m, 100000, 1 - steps) if steps else NONE for steps in (away, contra)), m)
+    # a missing A or C does not bind, whether by small steps, by large ones or across
+    for m in MPVS:
+        for kind in (MMALO, MMRP):
+            for low, middle, high, top in ((90, 100, 110, 120), (295, 300, 310, 320), (490, 500, 510, 520)):
+                for away, contra in ((NONE, NONE), (middle, NONE), (NONE, middle), (middle, high), (high, middle), (middle, middle)):
+                    for limit in (low, middle, top):
                         add_both(kind, limit, away, contra, m)
-    # a missing A or C does not bind
-    for m in MPVS:
-        for kind in (MMALO, MMRP):
-            for away, contra in ((NONE, NONE), (500, NONE), (NONE, 500), (500, 510), (510, 500), (500, 500)):
-                for limit in (490, 500, 520):
-                    add_both(kind, limit, away, contra, m)
 
 
 # ---- the other rules at their edges ----
@@ -176,44 +180,44 @@ def protections():
 def stops():
     for kind in (PLAIN, MMLO, MMALO, MMRP, DISPLAYED, DARK):
         for side in (BUY, SELL):
-            for limit in (499, 500, 501):
+            for limit in (495, 500, 505):
                 add("stop", 1, 10, kind, side, limit, 500, 0, limit)
                 add("stop", 1, 10, kind, side, limit, NONE, 0, limit)
-    # 22 at its edge, by MPV and K
+    # 22 at its edge, by pair and K
     for m in MPVS:
         for k in (0, 3, 100):
             for kind in (MMALO, MMRP, PLAIN):
                 for steps in sorted({0, k, k + 1}):
-                    add("stop", m, k, kind, BUY, 5000, NONE, 0, 5000 - steps * m)
-                    add("stop", m, k, kind, SELL, 5000, NONE, 0, 5000 + steps * m)
+                    add("stop", m, k, kind, BUY, 5000, NONE, 0, climbed(m, 5000, -steps))
+                    add("stop", m, k, kind, SELL, 5000, NONE, 0, climbed(m, 5000, steps))
     # 23 at its edge, and before 22
     for m in MPVS:
         for kind in (MMALO, MMRP, PLAIN):
             for k in (0, 100):
-                for display in (0, m, 2 * m):
-                    add("stop", m, k, kind, BUY, 2 * m, NONE, 0, display)
-                for display in (100000 - m, 100000, 100000 + m):
-                    add("stop", m, k, kind, SELL, 100000 - m, NONE, 0, display)
+                for steps in (0, 1, 2):
+                    add("stop", m, k, kind, BUY, climbed(m, 0, 2), NONE, 0, climbed(m, 0, steps))
+                    add("stop", m, k, kind, SELL, climbed(m, 100000, -1), NONE, 0, climbed(m, 100000, 1 - steps))
     # 20 before 21; 21 of itself
     add("stop", 1, 10, MMLO, BUY, 500, 500, 500, 500, says="20")
-    add("stop", 1, 10, MMLO, BUY, 500, 501, 500, 500, says="21")
+    add("stop", 1, 10, MMLO, BUY, 500, 505, 500, 500, says="21")
     add("stop", 1, 10, MMLO, SELL, 500, 500, 500, 500, says="20")
-    add("stop", 1, 10, MMLO, SELL, 500, 499, 500, 500, says="21")
+    add("stop", 1, 10, MMLO, SELL, 500, 495, 500, 500, says="21")
     # 21 at its edge, and of no other kind; no undisplayed price is no price of 0
     for kind in (PLAIN, MMLO, MMALO, MMRP, DISPLAYED, DARK):
         for side in (BUY, SELL):
-            for hidden in (NONE, 1, 499, 500, 501, 100000):
+            for hidden in (NONE, 1, 495, 500, 505, 100000):
                 add("stop", 1, 10, kind, side, 500, NONE, hidden, 500)
     # outside what the rule is for
-    add("stop", 1, 101, MMALO, BUY, 500, 500, 0, 499, says="-")
-    add("stop", 2, 10, MMALO, BUY, 500, 500, 0, 499, says="-")
+    add("stop", 1, 101, MMALO, BUY, 500, 500, 0, 495, says="-")
+    for m in (0, 2, 4, 6, 10):
+        add("stop", m, 10, MMALO, BUY, 500, 500, 0, 490, says="-")
 
 
 def slides():
     for m in MPVS:
-        for p in (0, 1, m - 1, m, m + 1, 2 * m, 5, 10, 15, 99999, 99995, 99990, 100000, 100001, 100000 + m, MOST):
+        for p in (15, 102, 105, 110, 1001, 1002, 1005, 1010, 50001, 50005, 50010, MOST):
             add("legal", m, p)
-    for m in (0, 2, 11, MOST):
+    for m in (0, 2, 10, 11, MOST):
         add("legal", m, 100, says="-")
     # a display never slides back, whatever the aims; the working price follows
     for side in (BUY, SELL):
@@ -226,22 +230,28 @@ def slides():
             for display in (99, 100, 101):
                 for working in (99, 100, 101):
                     add("eased", side, away, display, working)
-    # sound prices: legal, in order, at most M apart, within the limit
+    # sound prices: legal, in order, at most one step apart, within the limit
     for m in MPVS:
         for side in (BUY, SELL):
-            for display in (500 - 2 * m, 500 - m, 500, 500 + m, 500 + 2 * m, 500 + m // 2):
-                for limit in (500 - m, 500, 500 + m):
+            for display in (*(climbed(m, 500, steps) for steps in range(-2, 3)), 500 + m // 2, 500 + m):
+                for limit in (climbed(m, 500, steps) for steps in (-1, 0, 1)):
                     add("slide", m, side, limit, display, 500)
-    add("slide", 3, BUY, 500, 500, 500, says="-")
-    add("slide", 1, BUY, 100001, 100000, 100001, says="0")
+    for m in (3, 10):
+        add("slide", m, BUY, 500, 500, 500, says="-")
+    add("slide", 1, BUY, 100005, 100000, 100005, says="0")
     add("slide", 1, SELL, 1, 1, 0, says="0")
 
 
 # ---- outside figures, by a fixed seed ----
 
+def somewhere(r, m, room=1):
+    """A legal price, every other one about 300; so many steps from either end."""
+    return climbed(m, 300, r.randint(-5, 5)) if r.random() < 0.5 else r.choice(LADDERS[m][room:-room])
+
+
 def near(r, m, middle):
     """A legal price a few steps from another."""
-    return min(max(middle + m * r.randint(-4, 4), m), 100000 // m * m)
+    return LADDERS[m][min(max(RUNGS[m][middle] + r.randint(-4, 4), 1), len(LADDERS[m]) - 2)]
 
 
 def maybe(r, price):
@@ -252,30 +262,33 @@ def by_chance():
     r = random.Random(20637)
     for _ in range(150):
         m, kind = r.choice(MPVS), r.choice((MMALO, MMRP))
-        middle = m * r.randint(1, 100000 // m)
+        middle = somewhere(r, m)
         add_both(kind, near(r, m, middle), maybe(r, near(r, m, middle)), maybe(r, near(r, m, middle)), m)
     for _ in range(42):
-        add("aims", r.randint(2, 5), r.randint(0, 2), *(r.choice((r.randint(0, 100020), 5 * r.randint(0, 20004))) for _ in range(3)), r.choice((1, 5, 10, 5, 10, 3)))
+        prices = (r.choice((r.randint(0, 330), r.randint(0, 100020), 5 * r.randint(0, 20004))) for _ in range(3))
+        add("aims", r.randint(2, 5), r.randint(0, 2), *prices, r.choice((1, 1, 5, 5, 10, 3)))
     for _ in range(100):
         best = maybe(r, r.choice((r.randint(1, 120), r.randint(100, 66000))))
         limit = max(1, min(100000, r.choice((best + 100, best + best // 2, best // 2, best)) + r.randint(-3, 3)))
         add("protection", r.randint(0, 1), r.randint(0, 1), max(1, limit + r.randint(-2, 2)), max(0, limit + r.randint(-2, 2)), r.randint(0, 1), best, limit)
     for _ in range(120):
         m, k, kind, side = r.choice(MPVS), r.randint(0, 6), r.randint(1, 6), r.randint(0, 1)
-        middle = m * r.randint(1, 100000 // m)
-        add("stop", m, k, kind, side, near(r, m, middle), maybe(r, near(r, m, middle)), maybe(r, near(r, m, middle)), near(r, m, middle))
+        middle = somewhere(r, m)
+        limit, display = sorted((near(r, m, middle), near(r, m, middle)), reverse=side == BUY)
+        add("stop", m, k, kind, side, limit, maybe(r, near(r, m, middle)), maybe(r, near(r, m, middle)), display)
     for _ in range(80):
         middle = r.randint(10, 99990)
         add("resting", r.randint(0, 1), *(middle + r.randint(-3, 3) for _ in range(3)))
         add("eased", r.randint(0, 1), maybe(r, middle + r.randint(-3, 3)), middle + r.randint(-3, 3), middle + r.randint(-3, 3))
     for _ in range(120):
         m, kind, side = r.choice(MPVS), r.choice((MMALO, MMRP)), r.randint(0, 1)
-        middle = m * r.randint(10, 100000 // m - 10)
+        middle = somewhere(r, m, room=10)
         prices = near(r, m, middle), maybe(r, near(r, m, middle)), maybe(r, near(r, m, middle))
         aims = (buy_aims if side == BUY else sell_aims)(m, kind, *prices)
-        step = m if side == BUY else -m
+        step = 1 if side == BUY else -1
         # at the aims, as a rule: a quote that has just moved
-        shown, works = r.choice((aims, aims, (aims[0] - step, aims[1]), (aims[0] + step, aims[1]), (aims[0], aims[1] - step)))
+        moved = r.choice(((0, 0), (0, 0), (-step, 0), (step, 0), (0, -step)))
+        shown, works = (climbed(m, aim, steps) for aim, steps in zip(aims, moved))
         add("stirring", m, kind, side, *prices, shown, works)
         add("slide", m, side, prices[0], shown, works)
 
@@ -287,6 +300,7 @@ def table():
     protections()
     stops()
     slides()
+    about_three_dollars()
     figures_at_edges()
     by_chance()
     figures_told()
