@@ -1,22 +1,59 @@
 """The prices and quantities a generated session aims at.
 
 Aiming knows the series being played (self.series), the generator's random
-numbers (self.rng), its flavour, and a band of prices round an anchor.
+numbers (self.rng), its flavour, and a band of prices round an anchor: as many
+steps to each side.
 """
 
 import tools
-from model import seen
+from entries import behind, seen
 from packed import *
+from steps import THREE_DOLLARS, climbed, small, step_at, steps_between
 
 QUANTITIES = (1, 1, 1, 2, 2, 3, 5, 7, 10, 20, 50, 100, 5_000, 99_998, 99_999)
 OFFSETS = (-3, -2, -2, -1, -1, -1, 0, 0, 0, 0, 1, 1, 1, 2, 2, 3)
 
 
+def moved(m, price, steps):
+    """So many steps from a price, or from the one on the grid below it, as far as legal prices go."""
+    on_grid = price - price % step_at(m, price)
+    return min(max(climbed(m, on_grid, steps), small(m)), TOP_PRICE)
+
+
 class Aiming:
+    def choose_band(self, m):
+        """The anchor and the band: every other session plays where the step changes."""
+        rng, flavour = self.rng, self.flavour
+        self.band = rng.choice((2, 3)) if flavour == "lock" else rng.choice((3, 5, 8, 12))
+        self.anchor = moved(m, rng.choice((20, 40, 60, 99, 101, 150, 200, 500, 2_000)) * small(m), 0)
+        about_300 = climbed(m, THREE_DOLLARS, rng.randint(-3, 3))
+        if flavour == "low":
+            self.anchor, self.band = climbed(m, 0, rng.choice((1, 2, 3, 5))), rng.choice((2, 3, 5))
+        elif flavour == "high":
+            self.anchor, self.band = climbed(m, TOP_PRICE, -rng.choice((0, 1, 2, 4))), rng.choice((2, 3, 5))
+        elif flavour == "protect":
+            self.anchor = moved(m, rng.choice((90, 100 + small(m), 200, 400, about_300)), 0)
+        elif flavour == "ladder":
+            self.anchor = climbed(m, THREE_DOLLARS, rng.choice((-20, -5, 0, 5, 200, 200, 200, 200)))
+        elif flavour == "step":
+            self.anchor, self.band = about_300, rng.choice((2, 3, 5))
+        elif rng.random() < 0.5:
+            self.anchor = about_300
+
     def legal(self, price):
         """The nearest legal price."""
-        m = self.series.m
-        return min(max(price // m * m, m), TOP_PRICE)
+        return moved(self.series.m, price, 0)
+
+    def higher(self, price, steps):
+        """A legal price so many steps higher; lower, where they are fewer than 0."""
+        return moved(self.series.m, price, steps)
+
+    def keener(self, side, price, steps):
+        """A legal price so many steps more aggressive; less, where they are fewer than 0."""
+        return self.higher(price, seen(side, steps))
+
+    def apart(self, one, other):
+        return steps_between(self.series.m, one, other)
 
     def best(self, side):
         prices = [seen(side, entry.working) for entry in self.series.resting(side)]
@@ -30,28 +67,26 @@ class Aiming:
             entry = rng.choice(series.book)
             points += [entry.display or entry.working, entry.working]
         points = [point for point in points if point] + [self.anchor]
-        price = rng.choice(points) + series.m * rng.choice(OFFSETS)
-        if abs(price - self.anchor) > self.band * series.m and rng.random() < 0.8:
-            price = self.anchor + series.m * rng.randint(-self.band, self.band)
-        return self.legal(price)
+        price = self.higher(rng.choice(points), rng.choice(OFFSETS))
+        if self.apart(price, self.anchor) > self.band and rng.random() < 0.8:
+            price = self.higher(self.anchor, rng.randint(-self.band, self.band))
+        return price
 
     def passive(self, side):
         """A price that does not trade: behind the own side's best."""
-        series, contra = self.series, self.best(1 - side)
-        front = [seen(side, price) - series.m for price in (contra,) if price]
-        if series.a(side) is not None:
-            front.append(series.a(side) - series.m)
+        series = self.series
+        front = [behind(series.m, side, price) for price in (series.c(side), series.a(side)) if price is not None]
         top = min(front + [seen(side, self.anchor)])
-        return self.legal(seen(side, top - series.m * self.rng.randrange(self.band)))
+        return self.keener(side, seen(side, top), -self.rng.randrange(self.band))
 
     def edge_of_k(self, kind, side):
-        """A limit whose way to its display is up to K MPVs, or one more."""
+        """A limit whose way to its display is up to K steps, or one more."""
         series = self.series
-        farthest = TOP_PRICE if side == BUY else series.m
+        farthest = TOP_PRICE if side == BUY else small(series.m)
         display = series.aims(kind, side, farthest)[0]
         inside = self.rng.randint(0, series.k)
         through = self.rng.choice((inside, inside, inside, series.k, series.k, series.k + 1))
-        return self.legal(seen(side, display + series.m * through))
+        return self.keener(side, seen(side, display), through)
 
     def edge_of_protection(self, side):
         """A price where a protection begins or just does not."""
@@ -69,7 +104,7 @@ class Aiming:
             edges += [half, half, national + 100 if side == BUY else half]
         if not edges:
             return self.near()
-        return self.legal(rng.choice(edges) + series.m * rng.choice((-1, 0, 0, 1)))
+        return self.higher(rng.choice(edges), rng.choice((-1, 0, 0, 1)))
 
     def limit(self, kind, side):
         rng = self.rng
@@ -82,9 +117,9 @@ class Aiming:
             return self.passive(side)
         contra = self.best(1 - side)
         if draw < 0.62 and contra:                           # through the book
-            return self.legal(contra + seen(side, self.series.m * rng.randint(0, 4)))
+            return self.keener(side, contra, rng.randint(0, 4))
         if draw > 0.985:
-            return self.legal(rng.choice((self.series.m, 2 * self.series.m, TOP_PRICE)))
+            return self.higher(0, rng.choice((1, 2))) if rng.random() < 0.67 else TOP_PRICE
         return self.near()
 
     def quantity(self, side=None, limit=0):

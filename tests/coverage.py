@@ -16,6 +16,7 @@ from collections import Counter
 from generate import FLAVOURS, generate
 from model import open_series
 from packed import *
+from steps import THREE_DOLLARS, down, small, step_at, up
 
 WANTED = (["kind %d" % kind for kind in range(1, 13)]
           + ["report %d" % kind for kind in range(1, 7)]
@@ -29,12 +30,15 @@ WANTED = (["kind %d" % kind for kind in range(1, 13)]
              "traded with own quote", "maker's own opposite quote cancelled 29",
              "both quotes cancelled 30", "a quote filled at once", "blocked maker refused",
              "displayed before undisplayed at one price", "dark and sliding apart at one price",
-             "sliding display apart from working", "display at M", "display at 100,000",
+             "sliding display apart from working", "display at the small step", "display at 100,000",
              "working at limit, display not", "move frees another", "settling of 10 steps",
              "settling of 100 steps", "taker held back by the away price",
              "cancel of another's entry", "two or more trades at arrival",
              "MMLO passes over undisplayed", "easing and move in one message",
-             "sell side settles", "buy side settles"])
+             "sell side settles", "buy side settles"]
+          + ["%s M %d, %s" % (side, m, what) for m in (1, 5) for side in ("buy", "sell")
+             for what in ("working at 300 and display one step behind", "display at 300 and working one step past", "22 across 300")]
+          + ["refused 3: on the small step alone"])
 
 
 def look(counts, series, before, data, answer):
@@ -44,7 +48,7 @@ def look(counts, series, before, data, answer):
     if len(data) < 11:
         counts["short last message"] += 1
     if refusal != 0:
-        look_at_refusal(counts, before, message, refusal)
+        look_at_refusal(counts, series, before, message, refusal)
         return
     counts["kind %d" % message.kind] += 1
     look_at_reports(counts, series, before, message, reports)
@@ -53,8 +57,12 @@ def look(counts, series, before, data, answer):
     look_at_book(counts, series)
 
 
-def look_at_refusal(counts, before, message, refusal):
+def look_at_refusal(counts, series, before, message, refusal):
     counts["refused %d" % refusal] += 1
+    if refusal == 3:
+        counts["refused 3: on the small step alone"] += any(
+            THREE_DOLLARS < price <= TOP_PRICE and price % small(series.m) == 0 and price % step_at(series.m, price) != 0
+            for price in (message.price, message.second))
     if refusal == 7:
         counts["refused 7: %s" % ("new quote" if message.kind in QUOTES else "order")] += 1
     if refusal == 6:
@@ -79,8 +87,21 @@ def look_at_reports(counts, series, before, message, reports):
             counts["%s side settles" % ("buy", "sell")[side]] += 1
         if kind in (RESTED, REPRICED) and price != 0:
             counts["sliding display apart from working"] += price != second
-            counts["display at M"] += price == series.m and price != second
+            counts["display at the small step"] += price == small(series.m) and price != second
             counts["display at 100,000"] += price == TOP_PRICE and price != second
+            look_at_300(counts, series.m, side, price, second)
+        if reason == 22:
+            display = next(test.first for test in series.tests if test.rule == 23)
+            counts["%s M %d, 22 across 300" % (("buy", "sell")[side], series.m)] += \
+                min(price, display) < THREE_DOLLARS < max(price, display)
+
+
+def look_at_300(counts, m, side, display, working):
+    """Prices one step apart where the step changes."""
+    back, on = (down, up) if side == BUY else (up, down)
+    name = "%s M %d, " % (("buy", "sell")[side], m)
+    counts[name + "working at 300 and display one step behind"] += (display, working) == (back(m, THREE_DOLLARS), THREE_DOLLARS)
+    counts[name + "display at 300 and working one step past"] += (display, working) == (THREE_DOLLARS, on(m, THREE_DOLLARS))
 
 
 def look_at_arrival(counts, series, before, message, reports):

@@ -7,7 +7,8 @@ writes one session, a setup and COUNT messages, to standard output.  The same
 seed, count and flavour give the same bytes.  Without FLAVOUR the seed chooses
 one.  The generator plays the model along, so that it can aim at the prices that
 matter just now: best prices, away prices, displays, the limits of K and of the
-protections, all give or take an MPV.
+protections, all give or take a step; and half of the sessions play about 300,
+where the step changes.
 """
 
 import tools
@@ -17,6 +18,7 @@ import sys
 from aiming import Aiming
 from model import Series, open_series, seen
 from packed import *
+from steps import climbed, large, small
 
 # How often each kind of message is sent, by flavour; and what else sets it apart.
 COMMON = {"quote": 40, "order": 12, "dark": 6, "cancel": 6, "withdraw": 4, "away": 20,
@@ -26,9 +28,10 @@ FLAVOURS = {
     "slide": {"quote": 40, "order": 5, "dark": 3, "cancel": 1, "withdraw": 1, "away": 40,
               "phase": 0.3, "overreach": 1, "faulty": 1},   # many sliding quotes, moving prices
     "crowd": {},                                            # one side slides, rank shows
-    "lock": {"quote": 50, "order": 20, "away": 15},         # a band of a few MPVs
+    "lock": {"quote": 50, "order": 20, "away": 15},         # a band of a few steps
+    "step": {"away": 30, "overreach": 6},                   # a narrow band about 300
     "dark": {"quote": 40, "dark": 30, "away": 15, "overreach": 8},  # MMLO quotes among dark orders
-    "low": {"away": 25},                                    # prices near M
+    "low": {"away": 25},                                    # prices near the small step
     "high": {"away": 25},                                   # prices near 100,000
     "protect": {"quote": 55, "underlying": 12, "enable": 5, "away": 15,
                 "dark": 10, "phase": 5},                    # reasons 24, 25, 26 and blocks
@@ -66,33 +69,24 @@ class Generator(Aiming):
 
     def setup(self):
         rng, flavour = self.rng, self.flavour
-        m = rng.choice((1, 1, 5, 10))
+        m = rng.choice((1, 5))
         k = rng.choice((0, 1, 1, 2, 2, 3, 4, 5, 8, 10, 20, 50, 100))
         if flavour in ("slide", "crowd"):
             k = rng.choice((3, 5, 8, 20))
         elif flavour in ("ladder", "full"):
             k = rng.choice((5, 50, 100, 100))
-        self.band = rng.choice((2, 3)) if flavour == "lock" else rng.choice((3, 5, 8, 12))
-        self.anchor = m * rng.choice((20, 40, 60, 99, 101, 150, 200, 2_000))
-        if flavour == "low":
-            self.anchor, self.band = m * rng.choice((1, 2, 3, 5)), rng.choice((2, 3, 5))
-        elif flavour == "high":
-            self.anchor, self.band = TOP_PRICE - m * rng.choice((0, 1, 2, 4)), rng.choice((2, 3, 5))
-        elif flavour == "protect":
-            self.anchor = m * rng.choice((max(1, 90 // m), max(2, 101 // m), 200 // m, 400 // m))
-        elif flavour == "ladder":
-            self.anchor = m * 400
-        strike = self.anchor + m * rng.choice((self.band, 2 * self.band, 0, 1)) + rng.randrange(2)
+        self.choose_band(m)
+        strike = climbed(m, self.anchor, rng.choice((self.band, 2 * self.band, 0, 1))) + rng.randrange(2)
         exempt = rng.random() < {"protect": 0.1, "full": 0.4, "ladder": 1, "crowd": 1}.get(flavour, 0.7)
         setup = [rng.randrange(2), int(exempt), m, k, min(max(strike, 1), TOP_PRICE), 0]
         if flavour == "setup":
             spoilt = rng.choice((2, 3, 4, 5, None, None))
             if spoilt is None:
                 setup[rng.choice((2, 3, 4))] = rng.choice((1, 5, 10, 100))
-                setup[2] = rng.choice((1, 5, 10, setup[2] % 16))
+                setup[2] = rng.choice((1, 5, 5, setup[2] % 16))
                 setup[3] = min(setup[3], 127)
             else:
-                setup[spoilt] = rng.choice({2: (0, 2, 3, 4, 6, 9, 11, 15), 3: (101, 127),
+                setup[spoilt] = rng.choice({2: (0, 2, 3, 4, 6, 9, 10, 10, 11, 15), 3: (101, 127),
                                             4: (0, 100_001, 131_071), 5: (1, 2, 3)}[spoilt])
             return join(setup, SETUP_WIDTHS)[:rng.choice((0, 1, 3, 4, 4, 4, 4, 4))]
         return join(setup, SETUP_WIDTHS)
@@ -161,9 +155,9 @@ class Generator(Aiming):
     def dark(self):
         """A dark order, mostly inside the spread."""
         rng, bid, offer = self.rng, self.best(BUY), self.best(SELL)
-        side, m = rng.randrange(2), self.series.m
-        if bid and offer and offer - bid > m and rng.random() < 0.6:
-            price = bid + m * rng.randrange(1, (offer - bid) // m)
+        side = rng.randrange(2)
+        if bid and offer and self.apart(bid, offer) > 1 and rng.random() < 0.6:
+            price = self.higher(bid, rng.randrange(1, self.apart(bid, offer)))
         else:
             price = self.limit(DARK, side)
         self.send(Message(DARK, rng.choice(self.parties), side, price, self.quantity()).pack())
@@ -197,14 +191,13 @@ class Generator(Aiming):
         sliding = [entry for entry in series.book if entry.kind in SLIDING]
         if bid and offer and draw < (0.4 if self.flavour in ("slide", "ladder") else 0.15):
             shift, squeeze = rng.choice((-2, -1, 1, 2)), rng.choice((1, 1, -1))
-            bid = self.legal(bid + series.m * shift)        # both the same way, or to each other
-            offer = self.legal(offer + series.m * shift * squeeze)
-            self.send(Message(AWAY, price=bid, second=offer).pack())
+            bid, offer = self.higher(bid, shift), self.higher(offer, shift * squeeze)
+            self.send(Message(AWAY, price=bid, second=offer).pack())        # both the same way, or to each other
             return
         if sliding and draw < 0.6:                          # about a sliding entry's prices
             entry = rng.choice(sliding)
             onto = rng.choice((entry.display, entry.display, entry.working, entry.limit))
-            onto = self.legal(onto + seen(entry.side, series.m * rng.choice((-1, 0, 0, 1, 2))))
+            onto = self.keener(entry.side, onto, rng.choice((-1, 0, 0, 1, 2)))
             bid, offer = (bid, onto) if entry.side == BUY else (onto, offer)
         elif draw < 0.7:
             offer = self.near()
@@ -213,23 +206,23 @@ class Generator(Aiming):
         else:
             bid, offer = self.near(), self.near()
         if self.flavour == "low" and rng.random() < 0.3:
-            bid, offer = 0, series.m * rng.choice((1, 1, 2))
+            bid, offer = 0, self.higher(0, rng.choice((1, 1, 2)))
         if self.flavour == "high" and rng.random() < 0.3:
-            bid, offer = TOP_PRICE - series.m * rng.choice((0, 0, 1)), 0
+            bid, offer = self.higher(TOP_PRICE, -rng.choice((0, 0, 1))), 0
         missing = 0.2 if self.flavour == "slide" else 0.1
         if rng.random() < missing:
             bid = 0
         if rng.random() < missing:
             offer = 0
         if bid and offer and bid >= offer and rng.random() < 0.6:
-            bid, offer = offer, self.legal(max(bid, offer + series.m))
+            bid, offer = offer, max(bid, self.higher(offer, 1))
         self.send(Message(AWAY, price=bid, second=offer).pack())
 
     def underlying(self):
         rng, m = self.rng, self.series.m
         top = self.best(BUY) or self.anchor
-        price = rng.choice((0, top + rng.randint(-1, 2 * m), self.anchor + self.band * m,
-                            self.anchor + 3 * self.band * m, TOP_PRICE))
+        price = rng.choice((0, top + rng.randint(-1, 2 * m), self.higher(self.anchor, self.band),
+                            self.higher(self.anchor, 3 * self.band), TOP_PRICE))
         self.send(Message(UNDERLYING, price=min(max(price, 0), TOP_PRICE)).pack())
 
     def phase(self):
@@ -274,7 +267,8 @@ class Generator(Aiming):
             return rng.choice((0, 17, 99, 100, 127))
         if name == "quantity":
             return rng.choice((0, 100_000, 131_071))
-        return rng.choice((0, self.near() + rng.randint(1, 9), m - 1, TOP_PRICE + m, 131_071))
+        near = self.near() + rng.randint(1, 9)              # on the grid, now and then
+        return rng.choice((0, near, near, near, small(m) - 1, 301, 305, TOP_PRICE + large(m), 131_071))
 
     # ---- runs of messages
 
@@ -296,7 +290,7 @@ class Generator(Aiming):
             bid, offer = (other, onto) if side == BUY else (onto, other)
             self.send(Message(AWAY, price=bid, second=offer).pack())
         through = rng.choice((0, 1, 2)) if kind != MMRP else rng.choice((0, series.k, series.k + 1))
-        limit = self.legal(contra + seen(side, series.m * through))
+        limit = self.keener(side, contra, through)
         here = sum(entry.quantity for entry in series.resting(1 - side)
                    if seen(side, entry.working) <= seen(side, limit))
         self.send(Message(kind, maker, side, limit, min(here + 5, TOP_QUANTITY)).pack())
@@ -333,17 +327,17 @@ class Generator(Aiming):
             self.send(Message(kind, party, side, limit, rng.randint(1, most)).pack())
             return
         away = seen(side, series.a(side) or seen(side, self.anchor))
-        if abs(away - self.anchor) > self.band * series.m or rng.random() < 0.1:
+        if self.apart(away, self.anchor) > self.band or rng.random() < 0.1:
             away = self.anchor
-        away = self.legal(away + series.m * rng.choice((-2, -1, -1, 1, 1, 2)))
+        away = self.higher(away, rng.choice((-2, -1, -1, 1, 1, 2)))
         self.send(Message(AWAY, price=away if side == SELL else 0,
                           second=away if side == BUY else 0).pack())
 
     def ladder(self):
         """Sliding quotes held apart by crossed away prices, orders behind; let go at once."""
-        rng, m, base, k = self.rng, self.series.m, self.anchor, self.series.k
+        rng, k = self.rng, self.series.k
         gap, mirror = rng.randint(3, 20), rng.randrange(2)
-        low, high = base, base + gap * m
+        low, high = self.anchor, self.higher(self.anchor, gap)
         self.send(Message(PHASE, quantity=CLOSED).pack())
         self.send(Message(PHASE, quantity=OPEN).pack())
         self.send(Message(AWAY, price=high, second=low).pack())
@@ -360,14 +354,14 @@ class Generator(Aiming):
                 kind, quantity = (MMALO, 1) if (maker, side) != makers[-1] else (MMRP, 99_999)
             elif steep:
                 through, quantity = max(gap + 1 - maker, 0), 1
-            display = low - m if side == BUY else high + m
-            limit = seen(side, seen(side, display) + m * min(through, k))
-            self.send(Message(kind, maker, side, self.legal(limit), quantity).pack())
+            display = self.higher(low, -1) if side == BUY else self.higher(high, 1)
+            limit = self.keener(side, display, min(through, k))
+            limit = min(limit, self.legal(low + (low - 1) // 2)) if side == BUY else max(limit, self.higher(high // 2, 1))    # short of 24
+            self.send(Message(kind, maker, side, limit, quantity).pack())
         for rung in range(rng.choice((0, 10, 20, 32, 32))):
             side = mirror if rng.random() < 0.1 and not steep else 1 - mirror
-            price = low - m * (2 + rung) if side == BUY else high + m * (2 + rung)
-            self.send(Message(rng.choice(ORDERS), rng.choice(self.parties), side,
-                              self.legal(price), rng.choice((1, 1, 3))).pack())
+            price = self.higher(low, -2 - rung) if side == BUY else self.higher(high, 2 + rung)
+            self.send(Message(rng.choice(ORDERS), rng.choice(self.parties), side, price, rng.choice((1, 1, 3))).pack())
         for _ in range(rng.choice((0, 0, 0, 1, 2, 3))):
             self.away()
         self.send(Message(AWAY).pack())
@@ -378,7 +372,7 @@ class Generator(Aiming):
         """Show the book that is left, in the order it trades: sweep both sides, then close."""
         party = self.parties[0]
         self.send(Message(AWAY).pack())
-        for side, price in ((SELL, self.series.m), (BUY, TOP_PRICE)):
+        for side, price in ((SELL, small(self.series.m)), (BUY, TOP_PRICE)):
             self.send(Message(ORDER, party, side, price, TOP_QUANTITY).pack())
             self.send(Message(CANCEL_ENTRY, party, entry=self.series.given).pack())
         self.send(Message(PHASE, quantity=CLOSED).pack())

@@ -8,10 +8,11 @@ import tools
 import copy
 from collections import namedtuple
 
-from entries import Entry, seen
+from entries import Entry, behind, seen
 from model import open_series
 from packed import *
 from printed import view_lines
+from steps import THREE_DOLLARS
 from told_why import all_tests, first_that_holds, posting_tests, protection_tests
 from words import KIND_WORDS, SIDE_WORDS
 
@@ -32,6 +33,8 @@ IN_WAY = ("the best is dark", "the best is half displayed", "several prices in t
 AWAY_THERE = ("away price there", "no away price")
 BOUND = ("bound by the contra price before the away price", "bound by the away price before the contra price",
          "the contra price is a half displayed one's")
+# The limit lies on the one side of 300 and the display on the other: steps of both sizes are counted.
+ACROSS = {1: "across 300 by steps of 1 and 5", 5: "across 300 by steps of 5 and 10"}
 NO_TEST = ("an offer far below an NBB under 100", "an offer far below an NBB of just 100", "a bid with no NBO",
            "an offer with no NBB")
 # Figures that would hold for another entry, setup or series: a rule that is not put is not told.
@@ -63,6 +66,7 @@ def wanted():
         yield from ("%d %s, %s" % (rule, word, what) for rule in (21, 22, 23, 24) for what in AWAY_THERE)
         yield from ("%d %s, the book left tells otherwise" % (rule, word) for rule in (21, 22, 24))
         yield from ("22 %s, %s" % (word, what) for what in BOUND)
+        yield from ("22 %s, %s%s" % (word, what, at) for what in ACROSS.values() for at in ("", ", at its edge"))
         yield from ("%d %s" % (reason, word) for reason in range(REPLACED, PHASE_ENDED + 1))
     yield "a buy's rest, 24 holds only after its trades"
     yield "a rule's reason at place 10 or behind"
@@ -92,7 +96,7 @@ def rule_names(stop):
     if rule in (21, 22, 23, 24):
         yield "%d %s, %s" % (rule, side, AWAY_THERE[away(stop) == 0])
     if rule in (20, 21, 25, 26) and stop.test.first == stop.test.second \
-            or rule == 22 and stop.test.first == stop.test.second + stop.series.m:
+            or rule == 22 and stop.test.first == stop.test.second + 1:
         yield "%d %s, at its edge" % (rule, side)
 
 
@@ -107,7 +111,8 @@ def names_of_24(stop):
     yield half
     if national in (100, 100 + stop.series.m):
         yield AT_100[HALVES.index(half)]
-    if stop.test.first - stop.test.second < (stop.series.m if half == HALVES[0] else 2 * stop.series.m):
+    step = sees(stop.entry.limit) - behind(stop.series.m, side, sees(stop.entry.limit))
+    if stop.test.first - stop.test.second < (step if half == HALVES[0] else 2 * step):
         yield half + ", at its edge"
     yield "24 %s, %s" % (SIDE_WORDS[side], BESTS[lit])
     if lit and all(entry.display != entry.working for entry in shown if sees(entry.display) == best):
@@ -130,7 +135,12 @@ def names_of_21(stop):
 
 
 def names_of_22(stop):
-    side, entries = stop.entry.side, contra(stop)
+    side, entries, limit = stop.entry.side, contra(stop), stop.entry.limit
+    display = next(test.first for test in stop.tests if test.rule == 23)
+    if min(limit, display) < THREE_DOLLARS < max(limit, display):
+        yield "22 %s, %s" % (SIDE_WORDS[side], ACROSS[stop.series.m])
+        if stop.test.first == stop.test.second + 1:
+            yield "22 %s, %s, at its edge" % (SIDE_WORDS[side], ACROSS[stop.series.m])
     if stop.entry.kind != MMALO or not entries:
         return
     c = min(seen(side, entry.working) for entry in entries)

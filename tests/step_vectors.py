@@ -1,11 +1,13 @@
 """Questions about the steps of document 02, 2: which prices are legal, and the rules where the step changes, at 300, and where the prices end."""
 
+import steps as reckoned
 from figure_vectors import agrees
 from price_questions import add
-from price_rules import BUY, MMALO, MMRP, MPVS, NONE, RUNGS, SELL, climbed
+from price_rules import BUY, LADDERS, MMALO, MMRP, MPVS, NONE, RUNGS, SELL, apart, climbed, legal
 
 
 def about_three_dollars():
+    reckoned_and_told()
     legal_prices()
     aims_by_hand()
     aims_about_300()
@@ -13,6 +15,15 @@ def about_three_dollars():
     slides_about_300()
     stops_by_hand()
     stops_across_300()
+
+
+def reckoned_and_told():
+    """The steps that the model reckons are those that the ladder tells, of every price."""
+    for m in MPVS:
+        assert all(reckoned.legal(m, price) == legal(m, price) for price in range(100021))
+        for low, high in zip(LADDERS[m], LADDERS[m][1:]):
+            assert (reckoned.up(m, low), reckoned.down(m, high)) == (high, low), (m, low, high)
+            assert reckoned.steps_between(m, low, 300) == abs(apart(m, low, 300)), (m, low)
 
 
 def legal_prices():

@@ -24,20 +24,31 @@ def large(m):
     return PAIRS[m][1]
 
 
+def step_at(m, price):
+    """The small step under 3.00, the large one from 3.00 up."""
+    return small(m) if price < THREE_DOLLARS else large(m)
+
+
 def legal(m, price):
     """From the small step to 100,000; under 3.00 a multiple of the small step, from 3.00 up one of the large."""
-    step = small(m) if price < THREE_DOLLARS else large(m)
-    return small(m) <= price <= TOP_PRICE and price % step == 0
+    return small(m) <= price <= TOP_PRICE and price % step_at(m, price) == 0
 
 
 def up(m, price):
-    """One step up: from 299 it leads to 300, and from 300 by the large step."""
-    return price + (small(m) if price < THREE_DOLLARS else large(m))
+    """One step up: from below 300 by the small step, from 300 by the large one."""
+    return price + step_at(m, price)
 
 
 def down(m, price):
-    """One step down: from 300 it leads by the small step."""
+    """One step down: from 300 by the small step, from above by the large one."""
     return price - (small(m) if price <= THREE_DOLLARS else large(m))
+
+
+def climbed(m, price, steps):
+    """So many steps up, one after the other; down, where they are fewer than 0."""
+    for _ in range(abs(steps)):
+        price = up(m, price) if steps > 0 else down(m, price)
+    return price
 
 
 def steps_between(m, one, other):

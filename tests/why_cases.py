@@ -1,5 +1,5 @@
 #!/usr/bin/env python3
-"""Reasons worked out by hand from document 01 and document 02, 1, against what the model tells.
+"""Reasons worked out by hand from document 01 and document 02, 1 and 2, against what the model tells.
 
     python3 tests/why_cases.py
 
@@ -45,18 +45,18 @@ CASES = {
         mmrp buy 4 160 x 1
             0 24 110 105
         mmrp buy 4 155 x 1
-            0 22 55 15
+            0 22 11 3
         mmrp buy 4 115 x 1
             0 none
         mmalo buy 4 120 x 1
-            0 22 20 15
+            0 22 4 3
             1 30 0 0
         plain buy 3 50 x 1
             refused 6
         enable 3
             0 none""",
     "offers on a put: 24 above 100 and not up to it, 20 and 22; a display is the NBO that a bid meets": """
-        put tested M 10 K 2 strike 300
+        put tested M 5 K 3 strike 300
         open
             0 none
         away 110 none
@@ -67,12 +67,12 @@ CASES = {
             0 20 60 110
         mmrp sell 3 100 x 1
             0 none
-        mmrp sell 4 90 x 1
-            0 22 30 20
+        mmrp sell 4 95 x 1
+            0 22 4 3
         plain buy 5 300 x 1
             0 26 300 300
         mmlo buy 6 290 x 1
-            0 24 340 120
+            0 24 350 115
         away 100 none
             0 none
             1 none
@@ -87,68 +87,68 @@ CASES = {
         call exempt M 1 K 10 strike 200
         open
             0 none
-        dark sell 50 305 x 1
+        dark sell 50 205 x 1
             0 none
-        dark sell 51 303 x 1
+        dark sell 51 203 x 1
             0 none
-        order sell 52 304 x 2
+        order sell 52 204 x 2
             0 none
-        plain sell 3 310 x 1
+        plain sell 3 210 x 1
             0 none
-        mmlo buy 3 306 x 5
+        mmlo buy 3 206 x 5
             0 none
-            1 21 306 303
+            1 21 206 203
             2 29 0 0
-        mmlo buy 3 302 x 5
+        mmlo buy 3 202 x 5
             0 none
-        mmlo buy 3 303 x 5
-            0 21 303 303
+        mmlo buy 3 203 x 5
+            0 21 203 203
             1 30 0 0
-        away none 304
+        away none 204
             0 none
-        mmlo buy 4 304 x 1
-            0 20 304 304
-        order buy 60 305 x 9
+        mmlo buy 4 204 x 1
+            0 20 204 204
+        order buy 60 205 x 9
             0 none
-            1 20 305 304
-        away none 290
+            1 20 205 204
+        away none 190
             0 none
-        mmrp buy 5 292 x 4
+        mmrp buy 5 192 x 4
             0 none
-        dark buy 50 288 x 1
+        dark buy 50 188 x 1
             0 none
-        mmlo sell 6 288 x 3
-            0 21 288 290
-        away 291 none
+        mmlo sell 6 188 x 3
+            0 21 188 190
+        away 191 none
             0 none
             1 none
-        mmlo sell 6 291 x 6
+        mmlo sell 6 191 x 6
             0 none
-            1 20 291 291
-        mmlo sell 6 288 x 3
-            0 20 288 291
+            1 20 191 191
+        mmlo sell 6 188 x 3
+            0 20 188 191
         away none none
             0 none
-        mmlo sell 6 288 x 3
-            0 21 288 288""",
+        mmlo sell 6 188 x 3
+            0 21 188 188""",
     "23 and 22 at the ends, after a trade and without": """
-        call exempt M 10 K 1 strike 200
+        call exempt M 5 K 1 strike 200
         open
             0 none
-        order sell 50 10 x 2
+        order sell 50 5 x 2
             0 none
-        mmalo buy 3 20 x 1
-            0 23 0 10
+        mmalo buy 3 10 x 1
+            0 23 0 5
+        away none 5
+            0 none
+        mmrp buy 3 5 x 5
+            0 none
+            1 23 0 5
         away none 10
             0 none
-        mmrp buy 3 10 x 5
-            0 none
-            1 23 0 10
-        away none 20
-            0 none
-        mmrp buy 3 30 x 1
-            0 22 20 10
-        mmrp buy 3 20 x 1
+        mmrp buy 3 15 x 1
+            0 22 2 1
+        mmrp buy 3 10 x 1
             0 none
         away 100000 none
             0 none
@@ -159,6 +159,69 @@ CASES = {
             0 24 100020 100000
         mmalo sell 4 50010 x 1
             0 23 100010 100000""",
+    "M 1: K counts small steps under 300 and large ones above, of a bid and of an offer": """
+        call exempt M 1 K 3 strike 200
+        open
+            0 none
+        away 297 300
+            0 none
+        mmrp buy 3 305 x 1
+            0 none
+        mmrp buy 4 310 x 1
+            0 none
+        mmrp buy 5 315 x 1
+            0 22 4 3
+        mmalo buy 5 301 x 1
+            refused 3
+        close
+            0 none
+            1 31 0 0
+            2 31 0 0
+        open
+            0 none
+        away 300 none
+            0 none
+        mmrp sell 3 299 x 1
+            0 none
+        mmrp sell 4 298 x 1
+            0 none
+        mmrp sell 5 297 x 1
+            0 22 4 3
+        mmalo buy 6 300 x 1
+            0 none
+        mmalo buy 6 310 x 1
+            0 27 0 0
+            1 none
+        mmalo buy 6 315 x 1
+            0 22 4 3
+            1 30 0 0""",
+    "M 5: the same, and off the large grid": """
+        call exempt M 5 K 3 strike 200
+        open
+            0 none
+        away 290 300
+            0 none
+        mmrp buy 3 320 x 1
+            0 none
+        mmrp buy 4 330 x 1
+            0 22 4 3
+        mmrp buy 4 305 x 1
+            refused 3
+        close
+            0 none
+            1 31 0 0
+        open
+            0 none
+        away 300 none
+            0 none
+        mmrp sell 3 290 x 1
+            0 none
+        mmrp sell 4 285 x 1
+            0 22 4 3
+        mmrp sell 4 299 x 1
+            refused 3
+        away 300 315
+            refused 3""",
     "27 to 31 compare nothing; a reason stands behind trades; refusals": """
         call exempt M 1 K 10 strike 200
         open

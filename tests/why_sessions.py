@@ -21,6 +21,7 @@ from entries import Entry, least, seen
 from generate import Generator
 from model import Series
 from packed import *
+from steps import THREE_DOLLARS, climbed, small, step_at
 from told_why import all_tests
 
 CHOICES = 16            # entries at hand, of which one is sent
@@ -32,18 +33,18 @@ class WhySession(Generator):
         self.tried = Counter()
 
     def setup(self):
-        """A setup, and where the scenes play: about 100, where 24 changes, at the ends or anywhere."""
+        """A setup, and where the scenes play: about 100, where 24 changes, about 300, where the step does, at the ends or anywhere."""
         rng = self.rng
-        m, k = rng.choice((1, 1, 5, 10)), rng.choice((0, 1, 2, 3, 3, 5, 5, 10, 20))
-        self.places = [m * max(1, place // m) for place in (m, 50, 95, 100, 100 + m, 150, 200, 400, TOP_PRICE - m)]
+        m, k = rng.choice((1, 5)), rng.choice((0, 1, 2, 3, 3, 5, 5, 10, 20))
+        self.places = [small(m), 50, 95, 100, climbed(m, 100, 1), 150, 200, 300, 400, climbed(m, TOP_PRICE, -1)]
         self.anchor, self.band = 100, rng.choice((2, 4, 8))
         strike = rng.choice((3, 120, 160, 205, 300, 1_000))
-        return pack_setup(rng.randrange(2), int(rng.random() < 0.2), m, k, strike)
+        return pack_setup(rng.randrange(2), int(rng.random() < 0.3), m, k, strike)
 
     def play(self):
         self.send(Message(PHASE, quantity=OPEN).pack())
         scenes = [self.anywhere, self.anywhere, self.at_an_end, self.priced_off, self.about_100, self.hidden,
-                  self.own_hidden, self.protected, self.half_displayed, self.through, self.behind_many_trades]
+                  self.own_hidden, self.protected, self.half_displayed, self.through, self.behind_many_trades, self.across_300]
         while True:
             for scene in self.rng.sample(scenes, len(scenes)):
                 self.cleared()
@@ -62,11 +63,8 @@ class WhySession(Generator):
 
     # ---- what scenes are made of
 
-    def keener(self, side, price, steps):
-        return self.legal(price + seen(side, self.series.m * steps))
-
     def near(self):
-        return self.keener(BUY, self.anchor, self.rng.randint(-self.band, self.band))
+        return self.higher(self.anchor, self.rng.randint(-self.band, self.band))
 
     def away(self):
         """Away prices, each perhaps missing, now and then crossed."""
@@ -109,9 +107,9 @@ class WhySession(Generator):
         rng.choice((self.cancel, self.withdraw))()
 
     def at_an_end(self, side):
-        """Sells rest at M, the lowest price, and the away offer comes onto it: no display fits before them."""
+        """Sells rest at the small step, the lowest price, and the away offer comes onto it: no display fits before them."""
         rng = self.rng
-        end = self.anchor = self.series.m if side == BUY else TOP_PRICE
+        end = self.anchor = small(self.series.m) if side == BUY else TOP_PRICE
         self.away_for(side, 0)
         for kind in rng.sample((ORDER, DARK, PLAIN, MMRP), rng.randint(1, 3)):
             self.enter_at(kind, 1 - side, end)
@@ -121,7 +119,7 @@ class WhySession(Generator):
         self.enter_at(MMRP, side, rng.choice(limits), 500)
         asked = self.series.strike if self.series.put else self.series.underlying
         if side == BUY and asked:
-            self.enter_at(rng.choice(SLIDING), BUY, self.legal(asked + self.series.m), 500)
+            self.enter_at(rng.choice(SLIDING), BUY, self.higher(asked, 1), 500)
         self.stopped(side)
 
     def priced_off(self, side):
@@ -147,7 +145,7 @@ class WhySession(Generator):
         rng = self.rng
         self.away_for(BUY, 0)
         self.enter_at(rng.choice((ORDER, PLAIN, MMLO)), SELL, self.legal(rng.choice((100, rng.randint(60, 100)))))
-        self.away_for(BUY, rng.choice((100 + self.series.m, self.legal(rng.randint(110, 120)), 0)))
+        self.away_for(BUY, rng.choice((self.higher(100, 1), self.legal(rng.randint(110, 120)), 0)))
         for _ in range(rng.randint(0, 2)):
             self.enter_at(rng.choice((ORDER, DARK)), SELL, self.legal(rng.randint(101, 140)))
         self.enter_at(rng.choice(QUOTES), BUY, self.legal(rng.randint(155, 205)), 500)
@@ -174,7 +172,7 @@ class WhySession(Generator):
         """Bids at the edge of 24 by what is shown, where others are dark or work before their display."""
         rng = self.rng
         if side == SELL:
-            self.anchor = self.legal(rng.choice((100 + self.series.m, 120, 200, 400)))
+            self.anchor = self.legal(rng.choice((self.higher(100, 1), self.higher(100, 2), 120, 200, 400)))
         self.hide(side)
         for _ in range(2):
             national = self.series.nbo(side)
@@ -208,6 +206,17 @@ class WhySession(Generator):
         self.away_for(side, self.anchor)
         self.enter_at(self.rng.choice((PLAIN, ORDER, MMLO)), side, self.keener(side, self.anchor, 1), 500)
 
+    def across_300(self, side):
+        """An away offer at 300 or before it, and sliding bids from beyond 300: K steps from their display, and one more."""
+        rng, k = self.rng, self.series.k
+        if self.series.put and not self.series.exempt and self.series.strike <= THREE_DOLLARS:
+            side = SELL
+        self.send(Message(UNDERLYING).pack())
+        before = max(0, k - rng.randint(1, 3))
+        self.away_for(side, self.keener(side, THREE_DOLLARS, -before))
+        for steps in (k, k + 1, k + 1):
+            self.enter_at(rng.choice(SLIDING), side, self.keener(side, THREE_DOLLARS, steps - before - 1), 5)
+
     def through(self, side):
         """Sells rest at the away offer and before it, and bids through it take them: what is left may not post."""
         rng, k = self.rng, self.series.k
@@ -234,7 +243,7 @@ class WhySession(Generator):
         """Kind, side and limit of an entry, and its sort: the rules that hold for it, and whether it takes."""
         rng, series = self.rng, self.series
         kind, side = rng.choice(kinds), rng.randrange(2) if side is None else side
-        limit = self.keener(BUY, rng.choice(self.edges(kind, side)), rng.choice((-1, 0, 0, 1)))
+        limit = self.higher(rng.choice(self.edges(kind, side)), rng.choice((-1, 0, 0, 1)))
         worst = least(seen(side, limit), series.a(side))
         takes = kind != MMALO and series.best_contra(side, worst, kind == MMLO) is not None
         tests = all_tests(series, Entry(0, kind, 0, side, limit, 1))
@@ -249,13 +258,13 @@ class WhySession(Generator):
         protected = [self.where_24_begins(side, price) for price in nationals]
         asked = [series.strike if series.put else series.underlying] if side == BUY else []
         slid = [self.edge_of_k(kind, side)] * 3 if kind in SLIDING else []
-        return nationals + protected + asked + slid + [self.near(), series.m, TOP_PRICE]
+        return nationals + protected + asked + slid + [self.near(), small(series.m), TOP_PRICE]
 
     def where_24_begins(self, side, national):
         if side == SELL:
             return self.legal(national // 2)
         edge = national + 100 if national <= 100 else national + (national + 1) // 2
-        return self.legal(edge + self.series.m - 1)
+        return self.legal(edge + step_at(self.series.m, edge) - 1)
 
 
 def why_messages(seed, count):
