@@ -15,12 +15,13 @@ from collections import Counter, defaultdict
 
 import series_vectors
 import soundness_vectors
+from entries import behind, seen
 from generate import Generator
 from handing import answer, case_bytes, case_lines, model_of, series, state_of, wrong_with
-from model import seen
 from packed import *
 from series_vectors import empty, full, orders
-from soundness_vectors import book_of, entry, random_book
+from sound_books import book_of, entry, random_book
+from steps import climbed, legal
 from tables import is_check, keep
 
 GOOD = Message(UNDERLYING, price=20_011).pack()         # accepted by every sound state
@@ -77,15 +78,15 @@ def settled(model):
 def slid(model, entry, rng):
     """A sliding entry at other prices, and perhaps with a keener limit: display and working price legal, a step apart at most, and
     no crossing."""
-    m, side, c = model.m, entry.side, model.c(entry.side)
-    limit = seen(side, entry.limit) + m * rng.choice((0, 0, 1, 3, 12, 120))
-    if not model.legal_price(seen(side, limit)):
-        limit = seen(side, entry.limit)
-    top = limit if c is None else min(limit, c - m)
-    working = top - m * rng.choice((0, 0, 0, 1, 1, 2, 3, 5, 9))
-    display = working - m * rng.randrange(2)
-    if model.legal_price(seen(side, display)) and model.legal_price(seen(side, working)):
-        entry.limit, entry.display, entry.working = seen(side, limit), seen(side, display), seen(side, working)
+    m, side, c, keener = model.m, entry.side, model.c(entry.side), seen(entry.side, 1)
+    limit = climbed(m, entry.limit, keener * rng.choice((0, 0, 1, 3, 12, 120)))
+    if not legal(m, limit):
+        limit = entry.limit
+    top = seen(side, limit) if c is None else min(seen(side, limit), behind(m, side, c))
+    working = climbed(m, seen(side, top), -keener * rng.choice((0, 0, 0, 1, 1, 2, 3, 5, 9)))
+    display = climbed(m, working, -keener * rng.randrange(2))
+    if legal(m, display) and legal(m, working):
+        entry.limit, entry.display, entry.working = limit, display, working
 
 
 def reranked(model, rng):
@@ -115,7 +116,7 @@ def unsettled(player, model):
 def sliding_states():
     """Of each flavour, states with something that slides; each with a message of every kind, and one with faults."""
     told = Counter()
-    for flavour in ("mixed", "slide", "crowd", "lock", "dark", "low", "high", "protect", "full", "ladder"):
+    for flavour in ("mixed", "slide", "crowd", "lock", "step", "dark", "low", "high", "protect", "full", "ladder"):
         player = Player(flavour)
         kept = [model for model in player.kept if sum(e.kind in SLIDING for e in model.book) >= 2]
         for kind in range(13):
@@ -125,27 +126,33 @@ def sliding_states():
     assert told["not settled"] >= 4 * told["settled"], told
 
 
-def rungs(side, away_bid=0, away_offer=0):
+def rungs(side, m=1, middle=20_000, back=None, ahead=None):
     """64 entries, and nothing where it wants to be: 15 MMALO follow, move by move, an MMRP that trades its way through 16 MMALO quotes and
-    32 orders."""
-    def at(price):
-        return price if side == BUY else 40_000 - price
+    32 orders.  Away prices are named by their steps from the middle."""
+    def at(steps):
+        return climbed(m, middle, seen(side, steps))
     makers = range(1, 16)
-    resting = [entry(MMALO, maker, side, at(20_200), maker, display=at(19_990 - maker), working=at(19_990 - maker)) for maker in makers]
-    resting += [entry(MMALO, maker, 1 - side, at(20_000 + maker), 20 + maker, 1, at(20_100 + maker), at(20_100 + maker)) for maker in range(1, 17)]
-    resting += [entry(ORDER if i % 3 else DARK, 50 + i, 1 - side, at(20_010 + 2 * i), 40 + i, 1) for i in range(32)]
-    resting.append(entry(MMRP, 16, side, at(20_300), 90, 99_999, at(19_900), at(19_901)))
-    bid, offer = (away_bid, away_offer) if side == BUY else (away_offer and at(away_offer), away_bid and at(away_bid))
-    return series(book_of(1, 90, resting), strike=30_000, bid=bid, offer=offer, exempt=1)
+    resting = [entry(MMALO, maker, side, at(120), maker, display=at(-10 - maker), working=at(-10 - maker)) for maker in makers]
+    resting += [entry(MMALO, maker, 1 - side, at(maker), 20 + maker, 1, at(100 + maker), at(100 + maker)) for maker in range(1, 17)]
+    resting += [entry(ORDER if i % 3 else DARK, 50 + i, 1 - side, at(10 + 2 * i), 40 + i, 1) for i in range(32)]
+    resting.append(entry(MMRP, 16, side, at(120), 90, 99_999, at(-30), at(-29)))
+    away = [0 if steps is None else at(steps) for steps in (back, ahead)]
+    bid, offer = away if side == BUY else away[::-1]
+    return series(book_of(m, 90, resting), strike=30_000, bid=bid, offer=offer, exempt=1)
+
+
+# Where the rungs lie on both sides of 300.
+RUNGS_ACROSS = ((BUY, 1, 280), (SELL, 1, 400), (BUY, 5, 155), (SELL, 5, 950))
 
 
 def long_settlings():
-    for side in (BUY, SELL):
-        most = len(answer(rungs(side), GOOD, ROOM_NEEDED)[1])
+    for where in RUNGS_ACROSS + ((BUY,), (SELL,)):
+        most = len(answer(rungs(*where), GOOD, ROOM_NEEDED)[1])
         assert most > 500, most
-        case(rungs(side), GOOD, says=0)
-        case(rungs(side, 0, 20_041), Message(ENABLE, 7).pack(), says=0)
-        case(rungs(side, 19_950, 20_000), Message(CANCEL_QUOTE, 3, side).pack(), says=0)
+        case(rungs(*where), GOOD, says=0)
+        case(rungs(*where, ahead=41), Message(ENABLE, 7).pack(), says=0)
+    for side in (BUY, SELL):
+        case(rungs(side, back=-10, ahead=0), Message(CANCEL_QUOTE, 3, side).pack(), says=0)
         case(rungs(side), Message(CANCEL_ENTRY, 16, entry=90).pack(), says=0)
         case(rungs(side), Message(PHASE, quantity=HALTED).pack(), says=0)
         case(rungs(side), Message(ORDER, 99, side, 20_000, 5).pack(), says=7)
@@ -157,12 +164,13 @@ def long_settlings():
         case(state_of(longest), one.message(copy.deepcopy(longest), kind))
 
 
-def eased(away_bid, away_offer, **numbers):
+def eased(away_bid, away_offer, pair=1, middle=210, **numbers):
     """Quotes of both sides, numbered by turns and ranked otherwise, that work a step ahead of their displays or at them."""
-    resting = [entry(MMRP if maker % 2 else MMALO, maker, side, 210, 2 * maker + (maker + side) % 2, maker,
-                     209 - maker if side == BUY else 211 + maker, 209 - maker + maker // 2 % 2 if side == BUY else 211 + maker - maker // 2 % 2)
-               for side in (BUY, SELL) for maker in (5, 3, 1, 2, 6, 4)]
-    return series(book_of(1, 20, resting), **dict(dict(bid=away_bid, offer=away_offer, exempt=1), **numbers))
+    def at(side, steps):
+        return climbed(pair, middle, seen(side, steps))
+    resting = [entry(MMRP if maker % 2 else MMALO, maker, side, middle, 2 * maker + (maker + side) % 2, maker,
+                     at(side, -1 - maker), at(side, -1 - maker + maker // 2 % 2)) for side in (BUY, SELL) for maker in (5, 3, 1, 2, 6, 4)]
+    return series(book_of(pair, 20, resting), **dict(dict(bid=away_bid, offer=away_offer, exempt=1), **numbers))
 
 
 def easings():
@@ -170,6 +178,13 @@ def easings():
     for away_bid, away_offer in ((0, 207), (213, 0), (213, 207), (214, 206), (215, 205), (216, 204), (300, 100), (212, 208), (1, 100_000)):
         case(eased(away_bid, away_offer), GOOD, says=0)
         case(eased(0, 0), Message(AWAY, price=away_bid, second=away_offer).pack(), says=0)
+    # the same steps from a middle so near 300 that the buys stand across it, or the sells, by each pair
+    for pair in (1, 5):
+        for middle in (climbed(pair, 300, 4), climbed(pair, 300, -4)):
+            for away in ((0, -3), (3, 0), (3, -3), (4, -4), (5, -5), (6, -6), (2, -2)):
+                bid, offer = (climbed(pair, middle, steps) if steps else 0 for steps in away)
+                case(eased(bid, offer, pair, middle), GOOD, says=0)
+                case(eased(0, 0, pair, middle), Message(AWAY, price=bid, second=offer).pack(), says=0)
     case(eased(214, 206), Message(PHASE, quantity=OPEN).pack(), says=0)
     case(eased(214, 206), Message(CANCEL_QUOTE, 3, SELL).pack(), says=0)
     case(eased(214, 206), Message(PLAIN, 3, SELL, 213, 9).pack())
@@ -181,7 +196,7 @@ def stopped():
     for kind in QUOTES:
         case(eased(0, 0, exempt=0, underlying=150), Message(kind, 3, BUY, 150, 5).pack(), tells=(25, 30, 30))
         case(eased(0, 0, exempt=0, put=1, strike=150), Message(kind, 3, BUY, 150, 5).pack(), tells=(26, 30, 30))
-        case(eased(0, 0), Message(kind, 3, BUY, 318, 5).pack(), tells=(24, 30))
+        case(eased(0, 0), Message(kind, 3, BUY, 320, 5).pack(), tells=(24, 30))
         case(eased(0, 0), Message(kind, 3, SELL, 104, 5).pack(), tells=(24, 30))
     case(eased(0, 206), Message(PLAIN, 3, BUY, 206, 5).pack(), tells=(20, 30))
     case(eased(214, 0), Message(MMLO, 3, SELL, 214, 5).pack(), tells=(20, 30))
@@ -197,7 +212,8 @@ def faults():
     """2, 3 and 4, of a series that would settle: nothing settles."""
     for says, message in ((2, Message(MMRP, 17, BUY, 210, 5)), (2, Message(DARK, 100, BUY, 210, 5)), (2, Message(ENABLE, 0)),
                           (2, Message(CANCEL_ENTRY, 0, entry=4)), (3, Message(ORDER, 1, SELL, 0, 5)), (3, Message(ORDER, 1, SELL, 100_001, 0)),
-                          (3, Message(AWAY, price=1, second=100_001)), (3, Message(UNDERLYING, price=100_001)), (4, Message(PLAIN, 3, BUY, 210, 0)),
+                          (3, Message(AWAY, price=1, second=100_001)), (3, Message(UNDERLYING, price=100_001)), (3, Message(ORDER, 1, SELL, 301, 5)),
+                          (3, Message(AWAY, price=299, second=304)), (4, Message(PLAIN, 3, BUY, 210, 0)),
                           (4, Message(DARK, 3, BUY, 210, 100_000)), (4, Message(PHASE, quantity=3)), (8, Message(CANCEL_QUOTE, 7, BUY))):
         case(eased(214, 206), message.pack(), says=says)
 
@@ -210,7 +226,7 @@ def halted_and_closed():
             carried = dict(party=1, side=SELL, price=1_050, quantity=2 if kind == PHASE else 10, second=1_000, entry=9)
             message = Message(kind, **{name: value for name, value in carried.items() if name in CARRIES[kind]}).pack()
             case(state, message, says=5 if kind in ENTERING else 8 if kind in (CANCEL_ENTRY, CANCEL_QUOTE) else 0)
-    case(orders(5, phase=HALTED, offer=995), Message(PHASE, quantity=OPEN).pack(), says=0)
+    case(orders(5, phase=HALTED, offer=1_990), Message(PHASE, quantity=OPEN).pack(), says=0)
     case(orders(5, phase=HALTED), Message(CANCEL_ENTRY, 99, entry=9).pack(), says=0)
     every = [1] * 16
     for kind in QUOTES:
@@ -232,10 +248,7 @@ CLAUSES = {"setup", "phase", "away price", "underlying price", "entry numbers gi
 def unsound_states():
     """Of each clause, the states that break it."""
     rng, states = random.Random(11), defaultdict(list)
-    for m in (1, 5, 10):
-        soundness_vectors.each_entry(m)
-        soundness_vectors.ends(m)
-    soundness_vectors.places(5)
+    soundness_vectors.each_clause()
     for state in series_vectors.every_case() + [series(book) for book in soundness_vectors.cases]:
         wrong = wrong_with(state)
         if wrong:
@@ -290,17 +303,17 @@ def last_numbers():
     for kind in ENTERING:
         quote, far = kind in QUOTES, Message(kind, 2, SELL, 2_300, 4).pack()
         for given, says in ((last - 1, 0), (last, 9)):
-            case(full(10, given=given), far, says=says)
-            case(series(book_of(10, given, [entry(ORDER, 1, BUY, 100, given)]), phase=HALTED), far, says=5)
-        case(full(10, given=last, blocked=[1] * 16), far, says=6 if quote else 9)
+            case(full(5, given=given), far, says=says)
+            case(series(book_of(5, given, [entry(ORDER, 1, BUY, 100, given)]), phase=HALTED), far, says=5)
+        case(full(5, given=last, blocked=[1] * 16), far, says=6 if quote else 9)
         case(filled(last), Message(kind, 3, BUY, 90, 4).pack(), says=7)
         case(filled(last), Message(kind, 2, BUY, 90, 4).pack(), says=9 if quote else 7)
         case(filled(last - 1), Message(kind, 2, BUY, 90, 4).pack(), says=0 if quote else 7)
     # the last number goes to a quote that is rejected, too
-    case(full(10, given=last - 1, offer=2_150), Message(PLAIN, 9, BUY, 2_150, 1).pack(), says=0)
-    case(full(10, given=last), Message(PLAIN, 9, BUY, 2_155, 1).pack(), says=3)
+    case(full(5, given=last - 1, offer=2_150), Message(PLAIN, 9, BUY, 2_150, 1).pack(), says=0)
+    case(full(5, given=last), Message(PLAIN, 9, BUY, 2_155, 1).pack(), says=3)
     # nothing else takes a number
-    state = full(10, given=last)
+    state = full(5, given=last)
     state["entries"][0]["number"] = last
     for says, message in ((0, Message(CANCEL_ENTRY, 1, entry=last)), (8, Message(CANCEL_ENTRY, 2, entry=last)),
                           (8, Message(CANCEL_ENTRY, 1, entry=7)), (0, Message(CANCEL_QUOTE, 4, SELL)), (8, Message(CANCEL_QUOTE, 4, BUY)),

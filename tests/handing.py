@@ -11,8 +11,9 @@ from model import Series
 from packed import *
 from printed import message_lines
 from series_vectors import is_sound_series, series, series_picture
+from sound_books import FIXED, SLIDING as SLIDES, DARK as HIDES, ZERO, book_of, entry
 from soundness import unsound
-from soundness_vectors import FIXED, SLIDING as SLIDES, DARK as HIDES, ZERO, book_of, entry, shown
+from soundness_vectors import shown
 
 PRICED = {PLAIN: FIXED, MMLO: FIXED, MMALO: SLIDES, MMRP: SLIDES, ORDER: FIXED, DARK: HIDES}
 

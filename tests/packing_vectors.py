@@ -4,8 +4,9 @@
 Run it again from the repository's root: python3 tests/packing_vectors.py
 It writes crates/test_packing/stdin and crates/test_packing/stdout.
 
-Everything here is written from the text of document 01 ("Numbers" and "Reports") and from nothing else: bits are strings
-of 0 and 1, and what a kind does not name is asked to be zero, field by field.
+Everything here is written from the text of document 01 ("Numbers" and "Reports") and of document 02, 2 ("Setup M 10 is
+refused; 1 and 5 name the pairs"), and from nothing else: bits are strings of 0 and 1, and what a kind does not name is asked
+to be zero, field by field.
 
 A line of stdin is a letter and bytes in hexadecimal:
   s BYTES           a setup
@@ -64,7 +65,7 @@ def with_kind(layout, kinds, text):
 
 
 def is_legal(m, k, strike):
-    return m in (1, 5, 10) and 0 <= k <= 100 and 1 <= strike <= 100000
+    return m in (1, 5) and 0 <= k <= 100 and 1 <= strike <= 100000
 
 
 def tell_message(text):

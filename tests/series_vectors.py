@@ -5,18 +5,20 @@ Run it again from the repository's root: python3 tests/series_vectors.py
 It writes crates/test_series/stdin and crates/test_series/stdout.
 
 `is_sound_series` is written from the text of document 01 ("A state is sound if: ..", "Numbers") and from nothing else; what it says
-of the book is `is_sound` of soundness_vectors.py. Each clause beyond the book is broken alone, by one and at its edges, on series
-that are sound otherwise, and some clauses of the book are broken through the series; every such case says whether the series ought
-to be sound, and the model has to agree before anything is written.
+of the book is `is_sound` of soundness_vectors.py, and of a price the ladder of price_rules.py (document 02, 2). Each clause beyond
+the book is broken alone, by one and at its edges, on series that are sound otherwise, and some clauses of the book are broken through
+the series; every such case says whether the series ought to be sound, and the model has to agree before anything is written.
 
 A series is 1,590 bytes: M, K, strike, phase, away bid, away offer, underlying price and the last number given in 4 bytes each, a
-byte each for put and exempt, 16 bytes for the makers (1 is blocked), and then the picture of its book (soundness_vectors.py).
+byte each for put and exempt, 16 bytes for the makers (1 is blocked), and then the picture of its book (sound_books.py).
 """
 import copy
 import random
 import struct
 
-from soundness_vectors import BIG, base, book_of, entry, is_price, is_quote, is_sound, picture, random_book, write_table
+from price_rules import LADDERS, MPVS, legal
+from sound_books import ACROSS, BIG, HOME, base, book_of, entry, picture, random_book, steps_from
+from soundness_vectors import ALONE, SLID, is_quote, is_sound, write_table
 
 CLOSED, OPEN, HALTED = 0, 1, 2
 NUMBERS = ("m", "k", "strike", "phase", "bid", "offer", "underlying", "given")
@@ -27,11 +29,11 @@ NUMBERS = ("m", "k", "strike", "phase", "bid", "offer", "underlying", "given")
 def is_sound_series(s):
     m, resting = s["m"], s["entries"][:s["count"]]
     # setup, phase and prices are legal
-    if m not in (1, 5, 10) or not 0 <= s["k"] <= 100 or not 1 <= s["strike"] <= 100000:
+    if m not in MPVS or not 0 <= s["k"] <= 100 or not 1 <= s["strike"] <= 100000:
         return False
     if s["phase"] not in (CLOSED, OPEN, HALTED):
         return False
-    if any(away != 0 and not is_price(m, away) for away in (s["bid"], s["offer"])) or not 0 <= s["underlying"] <= 100000:
+    if any(away != 0 and not legal(m, away) for away in (s["bid"], s["offer"])) or not 0 <= s["underlying"] <= 100000:
         return False
     # entry numbers are among those given, at most 1,000,000
     if s["given"] > 1000000:
@@ -51,18 +53,20 @@ def series(book, **numbers):
     return s
 
 
-def full(step, **numbers):
-    """A series with every kind on both sides of its book, away prices and an underlying price."""
-    return series(base(step), **dict(dict(bid=195 * step, offer=225 * step, underlying=20013), **numbers))
+def full(pair, home=None, **numbers):
+    """A series with every kind on both sides of its book, away prices and an underlying price; the pair of steps is named by its M."""
+    at = steps_from(pair, home or HOME[pair])
+    return series(base(pair, home), **dict(dict(bid=at(-5), offer=at(25), underlying=20013), **numbers))
 
 
-def orders(step, **numbers):
+def orders(pair, **numbers):
     """A series whose book has no quote."""
-    return series(book_of(step, 9, [entry(5, 1, 0, 200 * step, 3), entry(6, 99, 1, 210 * step, 9), entry(6, 16, 0, 190 * step, 1)]), **numbers)
+    at = steps_from(pair, HOME[pair])
+    return series(book_of(pair, 9, [entry(5, 1, 0, at(0), 3), entry(6, 99, 1, at(10), 9), entry(6, 16, 0, at(-10), 1)]), **numbers)
 
 
-def empty(step, **numbers):
-    return series(book_of(step, 0, []), **numbers)
+def empty(pair, **numbers):
+    return series(book_of(pair, 0, []), **numbers)
 
 
 def series_picture(s):
@@ -88,11 +92,11 @@ def each(make, field, values):
 
 def setup():
     for m in (0, 1, 2, 3, 4, 5, 6, 9, 10, 11, 15, 20, 100, 256, BIG):
-        case(empty(m, phase=CLOSED), m in (1, 5, 10))
-        case(empty(m), m in (1, 5, 10))
-    # another M with the same book, whose prices are multiples of 10; but what slides by 10 slides by more than 5
-    each(lambda **n: full(10, **n), "m", ((10, True), (5, False), (1, False), (2, False)))
-    each(lambda **n: orders(10, **n), "m", ((10, True), (5, True), (1, True), (2, False), (20, False), (100, False)))
+        case(empty(m, phase=CLOSED), m in (1, 5))
+        case(empty(m), m in (1, 5))
+    # another M with the same book, whose prices are multiples of 10; but what slides by 10, one step of M 5, slides by two steps of M 1
+    each(lambda **n: full(5, **n), "m", ((5, True), (1, False), (2, False), (10, False)))
+    each(lambda **n: orders(5, **n), "m", ((5, True), (1, True), (2, False), (10, False), (20, False), (100, False)))
     for make in (lambda **n: full(5, **n), lambda **n: empty(1, **n)):
         each(make, "k", ((0, True), (1, True), (99, True), (100, True), (101, False), (102, False), (127, False), (256, False), (BIG, False)))
         each(make, "strike", ((0, False), (1, True), (7, True), (99999, True), (100000, True), (100001, False), (131071, False), (BIG, False)))
@@ -102,7 +106,7 @@ def setup():
 
 
 def phases():
-    for make in (lambda **n: empty(1, **n), lambda **n: orders(5, **n), lambda **n: full(10, **n)):
+    for make in (lambda **n: empty(1, **n), lambda **n: orders(5, **n), lambda **n: full(5, **n)):
         s = make()
         for phase in (0, 1, 2, 3, 4, 255, 256, 257, BIG):
             quoted = any(is_quote(e) for e in s["entries"][:s["count"]])
@@ -122,15 +126,14 @@ def phases():
 
 
 def prices():
-    for m in (1, 5, 10):
-        ends = [(0, True), (m - 1, m == 1), (m, True), (m + 1, m == 1), (2 * m, True), (100000 - m, True), (99999, m == 1), (100000, True),
-                (100001, False), (100000 + m, False), (131071, False), (BIG, False)]
-        for field in ("bid", "offer"):
-            each(lambda **n: full(m, **n) if field == "bid" else empty(m, phase=CLOSED, **n), field, ends)
+    for m in MPVS:
+        # 0 means none
+        each(lambda **n: full(m, **n), "bid", ((0, True), (131071, False), *ALONE[m][1:]))
+        each(lambda **n: empty(m, phase=CLOSED, **n), "offer", ((0, True), (131071, False), *ALONE[m][1:]))
     # crossed or locked away prices are accepted, among themselves and with the book
     for bid, offer in ((220, 220), (225, 215), (100000, 1), (230, 0), (0, 190)):
         case(full(1, bid=bid, offer=offer), True)
-    for make in (lambda **n: full(10, **n), lambda **n: empty(5, phase=CLOSED, **n)):
+    for make in (lambda **n: full(5, **n), lambda **n: empty(5, phase=CLOSED, **n)):
         each(make, "underlying", ((0, True), (1, True), (7, True), (99999, True), (100000, True), (100001, False), (131071, False), (BIG, False)))
 
 
@@ -146,9 +149,9 @@ def numbers():
 
 def places():
     for make, phase in ((empty, CLOSED), (empty, OPEN), (orders, HALTED), (full, OPEN)):
-        held = make(10)["count"]
+        held = make(5)["count"]
         for count in (held, held + 1, 64, 65, 66, 128, 256, BIG):
-            case(make(10, phase=phase, count=count), count == held)
+            case(make(5, phase=phase, count=count), count == held)
     # nothing rests in a closed series, and nothing stands in the places that are not used
     for phase in (CLOSED, OPEN, HALTED):
         case(orders(1, phase=phase, count=0), False)
@@ -168,9 +171,9 @@ def blocked():
         case(full(1, blocked=[int(i == maker) for i in range(16)]), True)
     for phase in (CLOSED, OPEN, HALTED):
         case(empty(5, phase=phase, blocked=[1] * 16), True)
-    case(orders(10, phase=HALTED, blocked=[1, 0] * 8), True)
-    case(full(10, blocked=[1] * 16), True)
-    case(full(10, blocked=[1] * 16, k=101), False)
+    case(orders(5, phase=HALTED, blocked=[1, 0] * 8), True)
+    case(full(5, blocked=[1] * 16), True)
+    case(full(5, blocked=[1] * 16, k=101), False)
 
 
 def books():
@@ -195,6 +198,15 @@ def books():
         damaged(orders, 2, False, phase, working=191)
         damaged(orders, 2, False, phase, kind=7)
         damaged(orders, 1, False, phase, limit=200, working=200)
+    # across 300, by each pair
+    for m, home in ACROSS:
+        case(full(m, home), True)
+        case(full(m, home, m=6 - m), False)
+        case(full(m, home, m=10), False)
+    for m in MPVS:
+        for sell, limit in ((0, 400), (1, 200)):
+            for display, working, ought in SLID[m][sell]:
+                case(series(book_of(m, 1, [entry(4, 7, sell, limit, 1, display=display, working=working)])), ought)
     # sound, though settling would move them: settled is no part of sound
     case(series(book_of(1, 2, [entry(4, 1, 0, 230, 1, display=200, working=200), entry(5, 9, 1, 220, 2)]), offer=300), True)
     case(series(book_of(1, 1, [entry(3, 2, 1, 150, 1, display=180, working=179)]), bid=190), True)
@@ -206,7 +218,7 @@ def mixed():
     for turn in range(30):
         b = random_book(rng)
         m = b["m"]
-        away = lambda: rng.choice((0, rng.randrange(1, 100000 // m + 1) * m))
+        away = lambda: rng.choice((0, rng.choice(LADDERS[m][1:-1])))
         s = series(b, k=rng.randrange(101), strike=rng.randrange(1, 100001), bid=away(), offer=away(), underlying=rng.randrange(100001),
                    put=rng.randrange(2), exempt=rng.randrange(2), blocked=[rng.randrange(2) for _ in range(16)])
         case(s, True)

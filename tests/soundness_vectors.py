@@ -5,27 +5,21 @@ Run it again from the repository's root: python3 tests/soundness_vectors.py
 It writes crates/test_soundness/stdin and crates/test_soundness/stdout.
 
 `is_sound` and `summary` are written from the text of document 01 ("A state is sound if: ..", "Numbers", "Prices an entry has",
-"Arrival") and from nothing else. Each clause is broken alone, by one and at its edges, on books that are sound otherwise;
-every such case says whether the book ought to be sound, and the model has to agree before anything is written.
+"Arrival") and from nothing else; prices and steps are those of the ladder in price_rules.py (document 02, 2). Each clause is broken
+alone, by one and at its edges, on books that are sound otherwise, under 300, above it and across; every such case says whether the
+book ought to be sound, and the model has to agree before anything is written.
 
-A book is 1,548 bytes: M and the last number given, then its picture: the count, and 64 entries of 24 bytes: number, limit,
-quantity, working price and display, then a byte each for party, kind, side and pricing (0 fixed, 1 dark, 2 sliding).
+A book is 1,548 bytes: M and the last number given, then its picture (sound_books.py).
 """
 import copy
 import random
 import struct
 
-FIXED, DARK, SLIDING = 0, 1, 2
-ZERO = dict(number=0, limit=0, quantity=0, working=0, display=0, party=0, kind=0, sell=0, pricing=FIXED)
-BIG = 2 ** 32 - 1
+from price_rules import MPVS, climbed, legal, next_above, next_below
+from sound_books import ACROSS, BIG, DARK, FIXED, HOME, SLIDING, ZERO, base, book_of, entry, picture, random_book, steps_from
 
 
 # ---- the model ----
-
-def is_price(m, p):
-    """Prices are cents, from M to 100,000 and multiples of M."""
-    return m <= p <= 100000 and p % m == 0
-
 
 def is_quote(e):
     return e["kind"] in (1, 2, 3, 4)
@@ -36,7 +30,7 @@ def is_entry(m, given, e):
     if not 1 <= e["number"] <= given or e["kind"] not in (1, 2, 3, 4, 5, 6):
         return False
     # limits, quantities and parties are legal
-    if not is_price(m, e["limit"]) or not 1 <= e["quantity"] <= 99999 or not 1 <= e["party"] <= 99:
+    if not legal(m, e["limit"]) or not 1 <= e["quantity"] <= 99999 or not 1 <= e["party"] <= 99:
         return False
     if is_quote(e) and not 1 <= e["party"] <= 16:
         return False
@@ -46,17 +40,17 @@ def is_entry(m, given, e):
     # dark ones work at the limit
     if e["kind"] == 6:
         return e["pricing"] == DARK and e["working"] == e["limit"]
-    # MMALO and MMRP
-    if e["pricing"] != SLIDING or not is_price(m, e["display"]) or not is_price(m, e["working"]):
+    # MMALO and MMRP: "a working price is at most one step past its display"
+    if e["pricing"] != SLIDING or not legal(m, e["display"]) or not legal(m, e["working"]):
         return False
-    ahead = e["display"] - e["working"] if e["sell"] else e["working"] - e["display"]
+    past = next_below(m, e["display"]) if e["sell"] else next_above(m, e["display"])
     beyond = e["limit"] - e["working"] if e["sell"] else e["working"] - e["limit"]
-    return 0 <= ahead <= m and beyond <= 0
+    return e["working"] in (e["display"], past) and beyond <= 0
 
 
 def is_sound(book):
     m, given, count, entries = book["m"], book["given"], book["count"], book["entries"]
-    if m not in (1, 5, 10) or count > 64:
+    if m not in MPVS or count > 64:
         return False
     resting, unused = entries[:count], entries[count:]
     if not all(is_entry(m, given, e) for e in resting):
@@ -92,67 +86,7 @@ def summary(book):
     return "sound " + " ".join(map(str, best)) + " " + " ".join(makers)
 
 
-# ---- books ----
-
-def entry(kind, party, sell, limit, number, quantity=10, display=None, working=None):
-    pricing = {5: FIXED, 1: FIXED, 2: FIXED, 6: DARK}.get(kind, SLIDING)
-    display = (limit if display is None else display) if pricing == SLIDING else 0
-    return dict(number=number, limit=limit, quantity=quantity, working=limit if working is None else working, display=display,
-                party=party, kind=kind, sell=int(sell), pricing=pricing)
-
-
-def book_of(m, given, resting):
-    return dict(m=m, given=given, count=len(resting), entries=[dict(e) for e in resting] + [dict(ZERO) for _ in range(64 - len(resting))])
-
-
-def base(m):
-    """A sound book with every kind on both sides, in an order of numbers that is not rising."""
-    bid, offer = 200 * m, 220 * m
-    return book_of(m, 40, [
-        entry(1, 1, 0, bid - 3 * m, 7), entry(2, 2, 1, offer + 2 * m, 3), entry(3, 3, 0, bid + 4 * m, 21, display=bid - 2 * m, working=bid - m),
-        entry(4, 4, 1, offer - 4 * m, 12, display=offer + 2 * m, working=offer + m), entry(5, 50, 0, bid - 4 * m, 13), entry(6, 60, 1, offer, 14),
-        entry(6, 61, 0, bid, 15), entry(3, 5, 1, offer + m, 1, display=offer + 3 * m, working=offer + 3 * m),
-        entry(4, 3, 1, offer + 5 * m, 30, display=offer + 5 * m), entry(4, 16, 0, bid - 5 * m, 31), entry(5, 3, 1, offer + 6 * m, 32)])
-
-
-def random_book(rng, size=None):
-    m = rng.choice((1, 5, 10))
-    size = rng.randrange(0, 65) if size is None else size
-    middle = rng.randrange(200, 9000) * m
-    numbers = rng.sample(range(1, 2000), size)
-    if rng.random() < 0.5:
-        numbers.sort()
-    taken, resting = set(), []
-    for number in numbers:
-        sell, kind = rng.randrange(2), rng.choice((1, 2, 3, 4, 5, 5, 6))
-        party = rng.randrange(1, 17)
-        if kind <= 4 and (party, sell) in taken:
-            kind = rng.choice((5, 6))
-        if kind <= 4:
-            taken.add((party, sell))
-        else:
-            party = rng.randrange(1, 100)
-        far = rng.randrange(1, 60) * m
-        price = middle + far if sell else middle - far
-        if kind in (3, 4):
-            keener = rng.randrange(0, 5) * m
-            limit = price - keener if sell else price + keener
-            back = rng.choice((0, m))
-            resting.append(entry(kind, party, sell, limit, number, display=price + back if sell else price - back, working=price))
-        else:
-            resting.append(entry(kind, party, sell, price, number))
-        resting[-1]["quantity"] = rng.randrange(1, 100000)
-    return book_of(m, max(numbers, default=0) + rng.randrange(0, 3), resting)
-
-
 # ---- the table ----
-
-def picture(book):
-    """The count and the 64 entries in bytes."""
-    return struct.pack(">I", book["count"]) + b"".join(
-        struct.pack(">IIIIIBBBB", e["number"], e["limit"], e["quantity"], e["working"], e["display"], e["party"], e["kind"], e["sell"], e["pricing"])
-        for e in book["entries"])
-
 
 def write_table(program, data, told, what):
     """What the test program reads, and what it must print."""
@@ -181,15 +115,19 @@ def changed(book, place, ought, **fields):
     case(other, ought)
 
 
-def each_entry(m):
-    b = base(m)
-    bid, offer = 200 * m, 220 * m
-    case(b, True)
+def each_entry(m, bid):
+    b = base(m, bid)
     numbers_and_sizes(b)
     parties(b)
-    kinds_and_pricing(b, m, bid)
-    prices(b, m, bid, offer)
-    sides(b, m, bid, offer)
+    kinds_and_pricing(b, steps_from(m, bid))
+    each_price(m, bid)
+
+
+def each_price(m, bid):
+    b, at = base(m, bid), steps_from(m, bid)
+    case(b, True)
+    prices(b, m, at)
+    sides(b, at)
 
 
 def numbers_and_sizes(b):
@@ -233,7 +171,7 @@ def parties(b):
     changed(b, 4, True, party=4)
 
 
-def kinds_and_pricing(b, m, bid):
+def kinds_and_pricing(b, at):
     # the kind and how the entry is priced
     changed(b, 0, True, kind=2)
     changed(b, 0, True, kind=5)
@@ -247,64 +185,67 @@ def kinds_and_pricing(b, m, bid):
     for kind in (1, 2, 5, 6):
         changed(b, 2, False, kind=kind)
     changed(b, 0, False, pricing=DARK)
-    changed(b, 0, False, pricing=SLIDING, display=bid - 3 * m)
+    changed(b, 0, False, pricing=SLIDING, display=at(-3))
     changed(b, 6, False, pricing=FIXED)
-    changed(b, 6, False, pricing=SLIDING, display=bid)
+    changed(b, 6, False, pricing=SLIDING, display=at(0))
     changed(b, 2, False, pricing=FIXED, display=0)
     changed(b, 2, False, pricing=DARK, display=0)
 
 
-def prices(b, m, bid, offer):
+def prices(b, m, at):
     # what is fixed or dark works at the limit
     for place in (0, 1, 4, 5, 6):
-        at = b["entries"][place]["limit"]
-        changed(b, place, False, working=at + m)
-        changed(b, place, False, working=at - m)
-        changed(b, place, False, limit=at - m)
+        limit = b["entries"][place]["limit"]
+        changed(b, place, False, working=next_above(m, limit))
+        changed(b, place, False, working=next_below(m, limit))
+        changed(b, place, False, limit=next_below(m, limit))
     # what slides: the working price against display and limit, a buy and a sell
     for ahead, ought in ((-1, False), (0, True), (1, True), (2, False), (3, False)):
-        changed(b, 2, ought, display=bid - 2 * m, working=bid - 2 * m + ahead * m)
-        changed(b, 3, ought, display=offer + 3 * m, working=offer + 3 * m - ahead * m)
+        changed(b, 2, ought, display=at(-2), working=at(-2 + ahead))
+        changed(b, 3, ought, display=at(23), working=at(23 - ahead))
     for limit, ought in ((-2, False), (-1, True), (0, True)):
-        changed(b, 2, ought, limit=bid + limit * m)
-        changed(b, 3, ought, limit=offer - limit * m)
+        changed(b, 2, ought, limit=at(limit))
+        changed(b, 3, ought, limit=at(20 - limit))
     changed(b, 2, False, display=0)
     changed(b, 2, False, working=0)
     changed(b, 3, False, working=0)
-    changed(b, 3, False, display=100000 + m, working=100000)
+    changed(b, 3, False, display=next_above(m, 100000), working=100000)
 
 
-def sides(b, m, bid, offer):
+def sides(b, at):
     # every buy below every sell, dark ones too: the dark sell at the offer, the dark buy at the bid
-    for sell, ought in ((bid + m, True), (bid, False), (bid - m, False)):
-        changed(b, 5, ought, limit=sell, working=sell)
-        changed(b, 6, offer - (sell - bid) < offer, limit=offer - (sell - bid), working=offer - (sell - bid))
-        changed(b, 3, ought, limit=sell, working=sell, display=sell)
-        changed(b, 10, ought, limit=sell, working=sell)
+    for apart, ought in ((1, True), (0, False), (-1, False)):
+        changed(b, 5, ought, limit=at(apart), working=at(apart))
+        changed(b, 6, ought, limit=at(20 - apart), working=at(20 - apart))
+        changed(b, 3, ought, limit=at(apart), working=at(apart), display=at(apart))
+        changed(b, 10, ought, limit=at(apart), working=at(apart))
 
 
-def ends(m):
-    """The grid and the ends of the prices."""
-    b = base(m)
-    bid, offer = 200 * m, 220 * m
-    case(b, True)
-    # off the grid
-    if m > 1:
-        changed(b, 0, False, limit=bid - 3 * m + 1, working=bid - 3 * m + 1)
-        changed(b, 0, False, limit=bid - 3 * m - 1, working=bid - 3 * m - 1)
-        changed(b, 2, False, limit=bid + 4 * m + 1)
-        changed(b, 2, False, display=bid - m - 1)
-        changed(b, 2, False, working=bid - m - 1)
-        changed(b, 8, False, working=offer + 5 * m - 1)
-    if m == 10:
-        changed(b, 0, False, limit=bid - 35, working=bid - 35)
-    # the ends of the prices
-    for p, ought in ((0, False), (m - 1, False), (m, True), (m + 1, m == 1), (2 * m, True)):
+# Prices of one entry, and whether they are legal; and of what slides at 300, a buy with limit 400 and a sell with limit 200, display and working
+# price: one step apart, two, by the other step, and off the grid.
+ALONE = {1: ((0, False), (1, True), (2, True), (299, True), (300, True), (301, False), (304, False), (305, True), (99995, True), (99999, False),
+             (100000, True), (100001, False), (100005, False), (BIG, False)),
+         5: ((0, False), (4, False), (5, True), (6, False), (10, True), (294, False), (295, True), (299, False), (300, True), (301, False), (305, False),
+             (310, True), (99990, True), (99995, False), (100000, True), (100005, False), (100010, False), (BIG, False))}
+SLID = {1: (((299, 300, True), (300, 305, True), (299, 305, False), (298, 300, False), (300, 310, False), (295, 300, False), (300, 301, False)),
+            ((305, 300, True), (300, 299, True), (305, 299, False), (300, 298, False), (310, 300, False), (300, 295, False), (301, 300, False))),
+        5: (((295, 300, True), (300, 310, True), (295, 310, False), (290, 300, False), (300, 320, False), (300, 305, False), (299, 300, False)),
+            ((310, 300, True), (300, 295, True), (310, 295, False), (300, 290, False), (320, 300, False), (305, 300, False), (300, 299, False)))}
+
+
+def grid(m):
+    """The grid, where it changes and where it ends."""
+    for p, ought in ALONE[m]:
         case(book_of(m, 1, [entry(5, 1, 0, p, 1)]), ought)
-    for p, ought in ((100000 - m, True), (100000, True), (100001, False), (100000 + m, False), (BIG, False)):
         case(book_of(m, 1, [entry(6, 1, 1, p, 1)]), ought)
-    case(book_of(m, 2, [entry(4, 1, 0, 2 * m, 1, display=m, working=2 * m), entry(3, 1, 1, 100000 - m, 2, display=100000, working=100000 - m)]), True)
-    case(book_of(m, 1, [entry(4, 1, 0, 2 * m, 1, display=0, working=m)]), False)
+        case(book_of(m, 1, [entry(4, 1, 1, p, 1, display=100000, working=100000)]), ought)
+    for kind in (3, 4):
+        for sell, limit in ((0, 400), (1, 200)):
+            for display, working, ought in SLID[m][sell]:
+                case(book_of(m, 1, [entry(kind, 1, sell, limit, 1, display=display, working=working)]), ought)
+    low, high = climbed(m, 0, 2), next_below(m, 100000)
+    case(book_of(m, 2, [entry(4, 1, 0, low, 1, display=m, working=low), entry(3, 1, 1, high, 2, display=100000, working=high)]), True)
+    case(book_of(m, 1, [entry(4, 1, 0, low, 1, display=0, working=m)]), False)
 
 
 def places(m):
@@ -315,7 +256,7 @@ def places(m):
             changed(b, place, False, **{field: 1})
         changed(b, place, False, pricing=DARK)
         changed(b, place, False, pricing=SLIDING)
-        changed(b, place, False, **entry(5, 50, 0, 100 * m, 33))
+        changed(b, place, False, **entry(5, 50, 0, 100, 33))
     for count in (0, 5, 10, 12, 64, 65, 66, BIG):
         other = copy.deepcopy(b)
         other["count"] = count
@@ -323,31 +264,37 @@ def places(m):
 
 
 def series():
-    b = base(10)
-    for m, ought in ((0, False), (1, False), (2, False), (5, False), (9, False), (10, True), (11, False), (15, False), (20, False), (BIG, False)):
+    # the prices of M 5 from 300 up are prices of M 1 too, but what slides by one step of M 5 slides by two of M 1
+    b = base(5)
+    for m, ought in ((0, False), (1, False), (2, False), (4, False), (5, True), (6, False), (10, False), (15, False), (20, False), (BIG, False)):
         other = copy.deepcopy(b)
         other["m"] = m
         case(other, ought)
-    plain = book_of(1, 3, [entry(5, 1, 0, 600, 3), entry(6, 1, 1, 610, 2)])
-    for m, ought in ((0, False), (1, True), (2, False), (3, False), (4, False), (5, True), (6, False), (10, True), (100, False)):
-        other = copy.deepcopy(plain)
-        other["m"] = m
-        case(other, ought)
+    for m, ought in ((0, False), (1, True), (2, False), (3, False), (4, False), (5, True), (6, False), (10, False), (100, False)):
+        case(book_of(m, 3, [entry(5, 1, 0, 600, 3), entry(6, 1, 1, 610, 2)]), ought)
+        case(book_of(m, 3, [entry(5, 1, 0, 600, 3), entry(6, 1, 1, 605, 2)]), m == 1)
+        case(book_of(m, 3, [entry(5, 1, 0, 290, 3), entry(6, 1, 1, 295, 2)]), ought)
     for given, ought in ((0, False), (31, False), (32, True), (33, True), (1000000, True)):
         other = copy.deepcopy(b)
         other["given"] = given
         case(other, ought)
     for m in (0, 1, 3, 5, 10):
-        case(book_of(m, 0, []), m in (1, 5, 10))
+        case(book_of(m, 0, []), m in (1, 5))
+
+
+def each_clause():
+    for m, bid in HOME.items():
+        each_entry(m, bid)
+    for m, bid in ACROSS:
+        each_price(m, bid)
+    for m in MPVS:
+        grid(m)
+    places(5)
 
 
 def main():
     rng = random.Random(37)
-    for m in (1, 10):
-        each_entry(m)
-    for m in (1, 5, 10):
-        ends(m)
-    places(5)
+    each_clause()
     series()
     for size in (0, 1, 2, 63, 64, 64):
         case(random_book(rng, size), True)
@@ -371,7 +318,7 @@ def main():
         if field == "display" and e["pricing"] != SLIDING:
             field = "working"
         top = 255 if field in ("party", "kind") else 100000
-        value = rng.choice((e[field] + 1, max(e[field] - 1, 0), e[field] + b["m"], rng.randrange(0, top)))
+        value = rng.choice((e[field] + 1, max(e[field] - 1, 0), e[field] + b["m"], e[field] + 2 * b["m"], rng.randrange(0, top)))
         changed(b, place, None, **{field: min(value, 255) if top == 255 else value})
 
     write_table("test_soundness", [struct.pack(">II", b["m"], b["given"]) + picture(b) for b in cases], [summary(b) for b in cases], "books")
