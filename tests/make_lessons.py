@@ -6,7 +6,8 @@
 
 The short lessons stand in tests/lesson_sources/*.txt, in the form that source.py
 reads.  The indented lines below a message are the reports it must give, worked
-out by hand from document 01; below `setup` stands what a refused setup prints.
+out by hand from document 01 and the steps of document 02, 2; below `setup` stands
+what a refused setup prints.
 Below a report of 20 to 26 stand the two figures that the rule compares, worked
 out by hand too, as in `# why: 220 against 219`.  With these the reports say what
 view why prints.  A lesson is written only if the model agrees with every line.
@@ -32,6 +33,11 @@ FIGURES = re.compile(r"\s+# why: (\d+) against (\d+)\s*$")
 # ---------------------------------------------------------------- the long lessons
 
 SETUP = "call exempt M 1 K 100 strike 200"
+
+
+def from_300(steps, small=1, large=5):
+    """The price that many steps above 300, or below it."""
+    return 300 + steps * (small if steps < 0 else large)
 
 
 def full_book():
@@ -61,12 +67,12 @@ def blocked_in_a_full_book():
 
 def long_settling_of_sells():
     """64 entries, and one away move that settles in hundreds of steps: MMALO sells follow
-    an MMRP sell that takes buy after buy."""
-    lines = ["open", "away 1020 1000"]
-    lines += ["%s buy %d %d x 1" % (("mmrp", "mmalo")[i % 2], i + 1, 1019 - i) for i in range(16)]
-    lines += ["mmalo sell %d 921 x 1" % maker for maker in range(1, 16)]
-    lines += ["mmrp sell 16 921 x 99999"]
-    lines += ["%s buy 50 %d x 1" % (("dark", "order")[i % 2], 998 - i) for i in range(32)]
+    an MMRP sell that takes buy after buy, first above 300 and then below."""
+    lines = ["open", "away %d %d" % (from_300(30), from_300(10))]
+    lines += ["%s buy %d %d x 1" % (("mmrp", "mmalo")[i % 2], i + 1, from_300(29 - i)) for i in range(16)]
+    lines += ["mmalo sell %d %d x 1" % (maker, from_300(-69)) for maker in range(1, 16)]
+    lines += ["mmrp sell 16 %d x 99999" % from_300(-69)]
+    lines += ["%s buy 50 %d x 1" % (("dark", "order")[i % 2], from_300(8 - i)) for i in range(32)]
     return SETUP, lines + ["away none none", "close"]
 
 
@@ -80,14 +86,25 @@ def one_order_takes_64():
 
 
 def both_sides_climb():
-    """Sliding quotes on both sides at M 10: away prices walk up and down, step by step."""
+    """Sliding quotes on both sides at M 5, far above 300: away prices walk up and down, by steps of 10."""
     lines = ["open", "away 2000 2100"]
     lines += ["mmrp buy %d %d x 5" % (maker, 2090 + 10 * maker) for maker in range(1, 7)]
     lines += ["mmalo sell %d %d x 5" % (maker, 2150 - 10 * maker) for maker in range(7, 13)]
     lines += ["dark sell 50 2130 x 4", "dark buy 50 2060 x 4"]
     for offer in (2090, 2080, 2110, 2130, 2070, 2150):
         lines += ["away %d %d" % (offer - 90, offer), "away %d %d" % (offer + 20, offer)]
-    return SETUP.replace("M 1", "M 10"), lines + ["away none none", "close"]
+    return SETUP.replace("M 1", "M 5"), lines + ["away none none", "close"]
+
+
+def both_sides_cross_300(m, pair):
+    """Sliding quotes on both sides: the away offer climbs across 300 and falls, then the away bid falls across it and climbs."""
+    at = lambda steps: from_300(steps, *pair)
+    lines = ["open", "away %d %d" % (at(6), at(-3))]
+    lines += ["%s buy %d %d x 5" % (("mmrp", "mmalo")[maker % 2], maker, at(maker - 3)) for maker in range(1, 7)]
+    lines += ["%s sell %d %d x 12" % (("mmalo", "mmrp")[maker % 2], maker, at(3 - maker)) for maker in range(1, 7)]
+    lines += ["away %d %d" % (at(6), at(offer)) for offer in (-2, -1, 0, 1, 2, 3, 1, 0, -3)]
+    lines += ["away %d %d" % (at(bid), at(-3)) for bid in (5, 4, 3, 2, 1, 0, -1, -2, 0, 2)]
+    return SETUP.replace("M 1", "M %d" % m), lines + ["away none none", "close"]
 
 
 def reason_behind_many_trades():
@@ -102,7 +119,9 @@ def reason_behind_many_trades():
 LONG = {"full-book-of-64": full_book, "blocked-maker-in-a-full-book": blocked_in_a_full_book,
         "long-settling-of-sells-in-a-full-book": long_settling_of_sells,
         "one-order-against-64-entries": one_order_takes_64,
-        "away-prices-walk-with-m-10": both_sides_climb,
+        "away-prices-walk-with-m-5": both_sides_climb,
+        "away-prices-walk-across-300-with-m-1": lambda: both_sides_cross_300(1, (1, 5)),
+        "away-prices-walk-across-300-with-m-5": lambda: both_sides_cross_300(5, (5, 10)),
         "why-a-reason-behind-many-trades": reason_behind_many_trades}
 
 
