@@ -1,7 +1,9 @@
 #!/usr/bin/env python3
 """Makes the bundle of the crate `test_lessons`: every lesson of tests/lessons and of
 tests/recorded in its reports, then every lesson of tests/lessons in the books it leaves, then
-every one in the reasons of its reports, and what must be printed for each.
+every one in the reasons of its reports, the recorded ones that have them too, and what must be
+printed for each.  Of the recorded ones only those of at most SHORT bytes are told why, since the
+program reads no more than MOST bytes; tests/front_door.py and c/test.sh ask it of all.
 
     python3 tests/bundle.py           writes crates/test_lessons/stdin and stdout
     python3 tests/bundle.py --check   only says whether they are up to date
@@ -24,6 +26,7 @@ from tables import keep
 HERE = os.path.dirname(os.path.abspath(__file__))
 REPORTS, BOOK, WHY = 0, 1, 2
 MOST = 262_144          # bytes that the program reads
+SHORT = 1_500           # bytes of a recorded lesson that is told why
 
 
 def part(data):
@@ -48,8 +51,10 @@ def parts():
             yield name, REPORTS, data, read(path + ".out")
     for _, name, data in lessons_of("lessons"):
         yield name + ", the book", BOOK, data, "".join(line + "\n" for line in books(data)).encode()
-    for path, name, data in lessons_of("lessons"):
-        yield name + ", why", WHY, data, read(path + ".why")
+    for folder in ("lessons", "recorded"):
+        for path, name, data in lessons_of(folder):
+            if folder == "lessons" or len(data) <= SHORT and os.path.exists(path + ".why"):
+                yield name + ", why", WHY, data, read(path + ".why")
 
 
 def bundled():

@@ -123,9 +123,11 @@ def try_book(path, text, name):
 
 
 def try_recorded(path):
-    """A recorded lesson on a pipe, and in words."""
+    """A recorded lesson on a pipe, and in words; and why, where its reasons stand beside it."""
     for data in (read(path, "rb"), shown(path)):
         expect("run " + path, door("run", stdin=data), (0, read(path[:-4] + ".out"), ""))
+    if os.path.exists(path[:-4] + ".why"):
+        expect("why " + path, door("why", path), (0, read(path[:-4] + ".why"), ""))
 
 
 def try_lessons():
