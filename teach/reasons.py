@@ -18,7 +18,7 @@ from packed import *
 from words import SIDE_WORDS, Mistake, quoted
 
 HIDDEN = "%d, the best price at which undisplayed interest works on the other side"
-TOO_FAR = "the display would stand %d cents from the limit, more than the %d allowed"
+TOO_FAR = "the display would stand %s from the limit, more than the %d allowed"        # some steps, and K
 
 # Of a buy, and of a sell.
 SENTENCES = {
@@ -113,4 +113,4 @@ class Reasons:
         if form is None or not holds(rule, side, first, second):
             raise Mistake("%d and %d are no reason for %d of a %s; expected: figures of which its comparison holds"
                           % (first, second, rule, SIDE_WORDS[side]))
-        return form % (first, second)
+        return form % ("%d step%s" % (first, "" if first == 1 else "s") if rule == 22 else first, second)

@@ -9,7 +9,7 @@ are not.
 """
 
 from packed import *
-from words import SIDE_WORDS, Mistake, message_words, quoted
+from words import PAIRS, SIDE_WORDS, Mistake, message_words, quoted
 
 NAMES = {PLAIN: "plain", MMLO: "MMLO", MMALO: "MMALO", MMRP: "MMRP",
          ORDER: "displayed", DARK: "dark"}
@@ -27,7 +27,7 @@ REFUSALS = {1: "no message: length, kind, an unused bit or field that is not 0",
             8: "no such entry of that party, or no such quote",
             9: "the last entry number, 1,000,000, has been given"}
 
-NO_SERIES = "the setup is refused for 1 (length, or M, K or strike out of range): no series"
+NO_SERIES = "the setup is refused for 1 (length, or M, K or strike out of range; %s): no series" % PAIRS
 
 
 def numbers_of(line):

@@ -21,7 +21,8 @@ A report a line, as the session program would say it in words:
     cancelled 27 buy 3 #2 225 x 40
     refused 8                               the message is refused
 
-A number need only fit its field: what the handler then refuses can be said too.  Words may stand in capitals.
+A number need only fit its field: what the handler then refuses can be said too, such as a setup with M 10.  Words may
+stand in capitals.
 """
 
 import re
@@ -34,7 +35,7 @@ SIDE_WORDS = ("buy", "sell")
 PHASE_WORDS = ("close", "open", "halt")
 
 # What stands after a word: a value's name, in capitals; a choice; any other word is itself.
-SETUP = "call|put tested|exempt M STEP K STEPS strike STRIKE"
+SETUP = "call|put tested|exempt M PAIR K STEPS strike STRIKE"
 MESSAGES = {word: (PHASE, "") for word in PHASE_WORDS}
 MESSAGES.update({"phase": (PHASE, "PHASE"), "away": (AWAY, "BID OFFER"),
                  "underlying": (UNDERLYING, "PRICE"), "enable": (ENABLE, "MAKER"),
@@ -52,13 +53,15 @@ REPORT_FIELDS = ("reason", "side", "party", "entry", "other", "price", "second",
 
 # The field that a value goes to, and the field's width in bits.
 CHOICES = {"call|put": "put", "tested|exempt": "exempt", "buy|sell": "side"}
-VALUES = {"STEP": ("m", 4), "STEPS": ("k", 7), "STRIKE": ("strike", 17),
+VALUES = {"PAIR": ("m", 4), "STEPS": ("k", 7), "STRIKE": ("strike", 17),
           "PARTY": ("party", 7), "MAKER": ("party", 7), "#ENTRY": ("entry", 20),
           "#OTHER": ("other", 20), "LIMIT": ("price", 17), "BID": ("price", 17),
           "OFFER": ("second", 17), "PRICE": ("price", 17), "CENTS": ("price", 17),
           "DISPLAY": ("price", 17), "WORKING": ("second", 17), "QUANTITY": ("quantity", 17),
           "PHASE": ("quantity", 17), "REASON": ("reason", 5), "REFUSAL": ("refusal", 4)}
 MAY_BE_NONE = ("BID", "OFFER", "PRICE")
+PAIRS = "M 1 is 1 and 5 cents, M 5 is 5 and 10 cents"      # the steps below 300 and from there on
+BESIDES = {"PAIR": ": " + PAIRS, **{name: ", or none" for name in MAY_BE_NONE}}
 
 
 class Mistake(Exception):
@@ -84,7 +87,7 @@ def value_of(name, word):
     top = (1 << VALUES[name][1]) - 1
     if not (digits.isascii() and digits.isdigit() and len(digits) < 10 and int(digits) <= top):
         raise Mistake("%s is no %s, which is a whole number from 0 to %d%s"
-                      % (quoted(word), name, top, ", or none" if name in MAY_BE_NONE else ""))
+                      % (quoted(word), name, top, BESIDES.get(name, "")))
     return int(digits)
 
 

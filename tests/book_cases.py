@@ -1,5 +1,5 @@
 #!/usr/bin/env python3
-"""Books worked out by hand from document 01, against what the model shows.
+"""Books worked out by hand from document 01 and the steps of document 02, 2, against what the model shows.
 
     python3 tests/book_cases.py
 
@@ -138,6 +138,25 @@ CASES = {
             1 1 2 50 5 200 200 200 1
             1 3 4 52 5 201 201 201 4
             1 0 3 3 4 195 195 195 5""",
+    "across 300: a step below the away offer, a step above the best buy": """
+        call exempt M 1 K 10 strike 200
+        open
+        away none 300
+        mmrp buy 3 305 x 5
+            0 0 1 3 4 305 299 300 5
+        order buy 50 299 x 2
+            0 0 1 3 4 305 299 300 5
+            0 1 2 50 5 299 299 299 2
+        mmalo sell 4 299 x 1
+            0 0 1 3 4 305 299 300 5
+            0 1 2 50 5 299 299 299 2
+            1 0 3 4 3 299 305 305 1
+        away none 305
+            0 1 2 50 5 299 299 299 2
+            0 0 1 3 4 305 300 305 4
+        away none 299
+            0 1 2 50 5 299 299 299 2
+            0 0 1 3 4 305 300 300 4""",
 }
 
 

@@ -111,7 +111,8 @@ def try_book(path, text, name):
     said = door("session", "book", stdin=read(path, "rb"))[1]
     expect("book --lines " + name, (status, sorted(lines.splitlines()), err), (0, sorted(said.splitlines()), ""))
     if said == "0 refused 1\n":
-        expect("book " + name, picture, "the setup is refused for 1 (length, or M, K or strike out of range): no series\n")
+        expect("book " + name, picture, "the setup is refused for 1 (length, or M, K or strike out of range; M 1 is 1 and\n"
+                                        "  5 cents, M 5 is 5 and 10 cents): no series\n")
         return
     told = [line for line in picture.splitlines() if re.match(r"\d+ ", line)]
     expect("book's messages of " + name, told, text.splitlines())

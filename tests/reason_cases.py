@@ -13,7 +13,7 @@ import re
 import tempfile
 from collections import Counter
 
-from cases import HERE, expect, finish
+from cases import HERE, every_lesson, expect, finish, read
 from lesson_cases import made_up, reason_told, told
 from model import Series, books, open_series, session
 from packed import *
@@ -36,6 +36,7 @@ def try_lessons():
     for name, text in LESSONS.items():
         data, whys, said = read_lesson(text)
         lines = session(data)
+        expect(name, session(data, "why"), whys)
         status, out, err = told(kept(data), lines, whys, books(data))
         expect(name, (status, err), (0, ""))
         expect(name, [reason_told(line) for line in out.splitlines()], said)
@@ -44,13 +45,27 @@ def try_lessons():
     expect("every rule and side has its case", wanted - rules, set())
 
 
+def try_recorded():
+    """Every lesson whose reasons stand beside it: each is said, with its two figures and no others."""
+    count = 0
+    for path in every_lesson():
+        if os.path.exists(path[:-4] + ".why"):
+            data, whys = read(path, "rb"), read(path[:-4] + ".why").splitlines()
+            status, out, err = told(path, read(path[:-4] + ".out").splitlines(), whys, books(data))
+            expect("tell " + path, (status, err), (0, ""))
+            figures = [[] if why.endswith(" 0 0") else why.split()[3:] for why in whys]
+            expect("figures of " + path, [re.findall(r"\d+", reason_told(line)) for line in out.splitlines()], figures)
+            count += 1
+    expect("there are such lessons", count > 0, True)
+
+
 # ---------------------------------------------------------------- which half of 24
 
 def random_lesson(dice):
     """Away offers, sells and bids round a dollar, among them bids of which the figures tell no half."""
     lines = ["setup call exempt M 1 K 100 strike 200", "open"]
     for _ in range(60):
-        price, bid = dice.choice((1, 50, 99, 100, 101, 150, 199, 200)), dice.choice((150, 199, 200, 202, 300, 399, 400))
+        price, bid = dice.choice((1, 50, 99, 100, 101, 150, 199, 200)), dice.choice((150, 199, 200, 202, 300, 395, 400))
         lines.append(dice.choice((
             "away %s %s" % (dice.choice(("none", 40, 99, 100)), dice.choice(("none", price, 131071))),
             "%s sell %d %d x 1" % (dice.choice(("order", "dark")), dice.randint(20, 22), price),
@@ -97,7 +112,7 @@ def try_halves():
 LINES = ["1 1 0 0 0 0 0 0 0 0", "2 2 20 0 3 1 0 225 0 1", "2 6 30 0 3 2 0 219 0 1", "3 refused 8", "4 4 0 1 3 3 0 230 230 1",
          "5 2 24 1 3 4 0 50 0 1", "5 6 22 0 3 4 0 50 0 1", "5 2 23 0 3 4 0 50 0 1", "5 2 23 1 3 4 0 50 0 1", "5 2 21 1 3 4 0 50 0 1"]
 WHYS = ["1 0 none", "2 0 20 225 220", "2 1 30 0 0", "3 refused 8", "4 0 none", "5 0 24 102 101", "5 1 22 4 3", "5 2 23 0 1",
-        "5 3 23 100001 100000", "5 4 21 199 200"]
+        "5 3 23 100005 100000", "5 4 21 199 200"]
 # The place of a line above, and what may not stand beside it.
 OTHERS = [
     (0, ""), (0, "1 0 none "), (0, "1  0 none"), (0, "1 1 none"), (0, "2 0 none"), (0, "1 0 20 5 5"), (0, "1 refused 1"),
@@ -143,7 +158,7 @@ if __name__ == "__main__":
     Series.checks = False
     with tempfile.TemporaryDirectory() as folder:
         os.chdir(folder)
-        for part in (try_lessons, try_halves, try_others):
+        for part in (try_lessons, try_recorded, try_halves, try_others):
             part()
         os.chdir(HERE)
     finish("reason_cases", "%d lessons are told why as by hand, %d reasons of other reports are not said" % (len(LESSONS), len(OTHERS)))

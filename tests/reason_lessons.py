@@ -1,8 +1,8 @@
 """Lessons in which something is rejected or cancelled, with the reason of every report, written out by hand.
 
 Below each message stands a line for each of its reports: none; or the rule, its two figures and, for 20 to 26, the
-sentence that the teacher's tool says of them; or the refusal.  They were written from document 01 and the table of
-docs/TEACHER.md, before any program was asked.
+sentence that the teacher's tool says of them; or the refusal.  They were written from document 01, document 02, 2 and the
+table of docs/TEACHER.md, before any program was asked.
 """
 
 import tools
@@ -101,12 +101,12 @@ LESSONS = {
         mmalo buy 3 101 x 1
             none
         mmalo buy 3 102 x 1
-            22 4 3: the display would stand 4 cents from the limit, more than the 3 allowed
+            22 4 3: the display would stand 4 steps from the limit, more than the 3 allowed
             30 0 0
         mmrp buy 3 103 x 2
             none
-            22 4 3: the display would stand 4 cents from the limit, more than the 3 allowed""",
-    "22 of a sell, with K steps of 5 cents": """
+            22 4 3: the display would stand 4 steps from the limit, more than the 3 allowed""",
+    "22 of a sell, with steps of 5 cents": """
         setup put exempt M 5 K 2 strike 200
         open
             none
@@ -115,21 +115,38 @@ LESSONS = {
         mmrp sell 3 195 x 1
             none
         mmrp sell 4 190 x 1
-            22 15 10: the display would stand 15 cents from the limit, more than the 10 allowed
+            22 3 2: the display would stand 3 steps from the limit, more than the 2 allowed
         order buy 50 205 x 2
             none
             none
         mmalo sell 4 190 x 1
-            22 20 10: the display would stand 20 cents from the limit, more than the 10 allowed""",
+            22 4 2: the display would stand 4 steps from the limit, more than the 2 allowed""",
     "22 where K is 0": """
-        setup call exempt M 10 K 0 strike 200
+        setup call exempt M 5 K 0 strike 200
         open
             none
         away none 100
             none
         mmrp buy 3 100 x 1
-            22 10 0: the display would stand 10 cents from the limit, more than the 0 allowed
-        mmrp buy 3 90 x 1
+            22 1 0: the display would stand 1 step from the limit, more than the 0 allowed
+        mmrp buy 3 95 x 1
+            none""",
+    "22 across three dollars, where a step is 1 cent below and 5 above": """
+        setup call exempt M 1 K 3 strike 200
+        open
+            none
+        away none 300
+            none
+        mmrp buy 3 310 x 1
+            none
+        mmrp buy 4 315 x 1
+            22 4 3: the display would stand 4 steps from the limit, more than the 3 allowed
+        away 300 none
+            none
+            none
+        mmalo sell 4 297 x 1
+            22 6 3: the display would stand 6 steps from the limit, more than the 3 allowed
+        mmalo sell 4 300 x 1
             none""",
     "23: no legal price to show; it comes before 22": """
         setup call exempt M 5 K 0 strike 200
@@ -142,8 +159,18 @@ LESSONS = {
         mmalo buy 3 50 x 1
             23 0 5: the display would be 0, below the lowest legal price 5
         mmrp sell 3 100000 x 1
-            23 100005 100000: the display would be 100005, above the highest legal price 100000
+            23 100010 100000: the display would be 100010, above the highest legal price 100000
         mmalo sell 3 99990 x 1
+            23 100010 100000: the display would be 100010, above the highest legal price 100000""",
+    "23 with steps of 1 and 5 cents": """
+        setup call exempt M 1 K 0 strike 200
+        open
+            none
+        away 100000 1
+            none
+        mmalo buy 3 1 x 1
+            23 0 1: the display would be 0, below the lowest legal price 1
+        mmrp sell 3 100000 x 1
             23 100005 100000: the display would be 100005, above the highest legal price 100000""",
     "24 of a bid by the away offer, to a dollar and above": """
         setup call exempt M 1 K 10 strike 200
@@ -296,7 +323,7 @@ LESSONS = {
         bytes ff
             refused 1""",
     "a setup that is refused": """
-        setup call exempt M 2 K 10 strike 200
+        setup call exempt M 10 K 10 strike 200
             refused 1""",
 }
 
