@@ -9,7 +9,7 @@ int engine_setup(Series *s, const uint8_t *setup, size_t length) {
   s->m = x >> 26 & 15;
   s->k = x >> 19 & 127;
   s->strike = x >> 2 & 131071;
-  return !((s->m == 1 || s->m == 5 || s->m == 10) && s->k <= 100 && 1 <= s->strike && s->strike <= 100000 && !(x & 3));
+  return !(is_pair(s->m) && s->k <= 100 && 1 <= s->strike && s->strike <= 100000 && !(x & 3));
 }
 
 /* ---- soundness ---- */
@@ -20,15 +20,15 @@ static int sound_entry(const Series *s, const Entry *e) {
   if (!e->party || e->party > (is_quote(e) ? MAKERS : 99)) return 0;
   if (slides(e->kind)) {
     if (e->pricing != SLIDING || !legal(s->m, e->display) || !legal(s->m, e->working)) return 0;
-    int64_t gap = e->sell ? (int64_t)e->display - e->working : (int64_t)e->working - e->display;
-    return gap >= 0 && gap <= s->m && reaches(e->sell, e->limit, e->working);
+    int near = e->working == e->display || back(e->sell, e->working, s->m) == e->display;
+    return near && reaches(e->sell, e->limit, e->working);
   }
   return e->pricing == (e->kind == 6 ? DARK : FIXED) && !e->display && e->working == e->limit;
 }
 
 static int sound(const Series *s) {
   static const Entry zero;
-  if (!(s->m == 1 || s->m == 5 || s->m == 10) || s->k > 100 || s->strike < 1 || s->strike > 100000 || s->phase > 2) return 0;
+  if (!is_pair(s->m) || s->k > 100 || s->strike < 1 || s->strike > 100000 || s->phase > 2) return 0;
   if (!given(s->m, s->bid) || !given(s->m, s->offer) || s->underlying > 100000 || s->given > 1000000 || s->count > PLACES) return 0;
   if (s->phase == 0 && s->count) return 0;
   uint32_t bid = 0, offer = UINT32_MAX, highest = 0, seats = 0, column[PLACES];
@@ -142,7 +142,8 @@ static uint32_t stopped(const Series *s, Entry *e) {
   }
   Aims to = aims(e->kind, e->sell, e->limit, a, best_working(s, !e->sell), s->m);
   if (e->sell ? to.display > 100000 : to.display < s->m) return 23;
-  if ((e->sell ? to.display - e->limit : e->limit - to.display) > (int64_t)s->k * s->m) return 22;
+  uint32_t from = steps_to(s->m, e->sell ? e->limit : to.display), up = steps_to(s->m, e->sell ? to.display : e->limit);
+  if (up - from > s->k) return 22;
   e->pricing = SLIDING;
   e->display = to.display;
   e->working = to.working;

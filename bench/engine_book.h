@@ -58,7 +58,16 @@ static void report(Out *o, uint64_t kind, uint64_t reason, uint64_t sell, uint64
 
 /* ---- prices ---- */
 
-static int on_grid(uint32_t m, uint32_t p) { return m == 1 || (m == 5 ? p % 5 == 0 : p % 10 == 0); }
+/* M 1 names the steps 1 and 5, M 5 the steps 5 and 10: the small one below CHANGE, the large one from it on */
+enum { CHANGE = 300 };
+static int is_pair(uint32_t m) { return m == 1 || m == 5; }
+static uint32_t large(uint32_t m) { return m == 1 ? 5 : 10; }
+static int on_grid(uint32_t m, uint32_t p) { return p < CHANGE ? m == 1 || p % 5 == 0 : m == 1 ? p % 5 == 0 : p % 10 == 0; }
+/* how many steps lead from 0 to p */
+static uint32_t steps_to(uint32_t m, uint32_t p) {
+  if (m == 1) return p <= CHANGE ? p : CHANGE + (p - CHANGE) / 5;
+  return p <= CHANGE ? p / 5 : CHANGE / 5 + (p - CHANGE) / 10;
+}
 static int legal(uint32_t m, uint32_t p) { return m <= p && p <= 100000 && on_grid(m, p); }
 static int given(uint32_t m, uint32_t p) { return p == 0 || legal(m, p); }
 static int is_quote(const Entry *e) { return e->kind <= 4; }
@@ -67,7 +76,8 @@ static int slides(uint32_t kind) { return kind == 3 || kind == 4; }
 static int reaches(int sell, int64_t a, int64_t b) { return sell ? a <= b : a >= b; }
 static int64_t keener(int sell, int64_t a, int64_t b) { return reaches(sell, a, b) ? a : b; }
 static int64_t meeker(int sell, int64_t a, int64_t b) { return reaches(sell, a, b) ? b : a; }
-static int64_t back(int sell, int64_t p, int64_t m) { return sell ? p + m : p - m; }
+/* one step less aggressive */
+static int64_t back(int sell, int64_t p, uint32_t m) { return sell ? p + (p < CHANGE ? m : large(m)) : p - (p <= CHANGE ? m : large(m)); }
 static uint32_t away(const Series *s, int sell) { return sell ? s->bid : s->offer; }
 static int shown(const Entry *e) { return e->pricing == FIXED || (e->pricing == SLIDING && e->display == e->working); }
 static uint32_t display(const Entry *e) { return e->pricing == FIXED ? e->limit : e->display; }
@@ -76,7 +86,7 @@ typedef struct {
   int64_t display, working;
 } Aims;
 
-static Aims aims(uint32_t kind, int sell, int64_t limit, int64_t a, int64_t c, int64_t m) {
+static Aims aims(uint32_t kind, int sell, int64_t limit, int64_t a, int64_t c, uint32_t m) {
   Aims r = {limit, limit};
   if (a) {
     r.display = meeker(sell, r.display, back(sell, a, m));

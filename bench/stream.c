@@ -36,6 +36,9 @@ static void setup(uint32_t put_, uint32_t exempt, uint32_t m, uint32_t k, uint32
   engine_setup(&s, b, 4);
 }
 
+/* From 300 cents up, where the streams play, M 1 moves by 5 and M 5 by 10. */
+enum { STEP = 5 };
+
 /* Depth wanders between 20 and 60: quotes of all kinds, orders, cancels, away moves, now and then an underlying price or an order that sweeps. */
 static void realistic(long count) {
   static const uint8_t kinds[] = {1, 1, 2, 3, 3, 4, 4};
@@ -43,10 +46,10 @@ static void realistic(long count) {
   setup(0, 1, 1, 100, 20000);
   send(11, 0, 0, 0, 1, 0, 0);
   for (long i = 2; i < count; i++) {
-    mid += below(3) - 1;
-    if (mid < 9000 || mid > 11000) mid = 10000;
+    mid += STEP * (below(3) - 1);
+    if (mid < 5000 || mid > 15000) mid = 10000;
     if (below(200) == 0) depth = 20 + below(41);
-    uint32_t sell = below(2), r = below(100), off = 1 + below(60);
+    uint32_t sell = below(2), r = below(100), off = STEP * (1 + below(60));
     if (s.count > depth && r < 55) {
       const Entry *e = &s.entries[below(s.count)];
       if (e->kind <= 4 && below(2)) send(8, e->party, e->sell, 0, 0, 0, 0);
@@ -58,7 +61,7 @@ static void realistic(long count) {
     } else if (r < 80) {
       send(5, 17 + below(83), sell, sell ? mid - off : mid + off, 1 + below(60), 0, 0);
     } else if (r < 97) {
-      send(9, 0, 0, below(20) ? mid - 1 - below(60) : 0, 0, below(20) ? mid + 1 + below(60) : 0, 0);
+      send(9, 0, 0, below(20) ? mid - STEP * (1 + below(60)) : 0, 0, below(20) ? mid + STEP * (1 + below(60)) : 0, 0);
     } else if (r < 98) {
       send(10, 0, 0, mid, 0, 0, 0);
     } else {
@@ -72,7 +75,7 @@ static void realistic(long count) {
 static void refusals(long count) {
   setup(0, 1, 5, 100, 20000);
   send(11, 0, 0, 0, 1, 0, 0);
-  for (int i = 0; i < 40; i++) send(5, 20, i & 1, i & 1 ? 10000 + 5 * i : 9000 - 5 * i, 7, 0, 0);
+  for (int i = 0; i < 40; i++) send(5, 20, i & 1, i & 1 ? 10000 + 10 * i : 9000 - 10 * i, 7, 0, 0);
   for (long i = 42; i < count; i++) {
     switch (below(6)) {
       case 0: send(13 + below(3), 1, 0, 100, 1, 0, 0); break;
@@ -104,10 +107,10 @@ static void again(long count, const char *path) {
 static void depth(long count, uint32_t deep) {
   setup(0, 1, 1, 100, 20000);
   send(11, 0, 0, 0, 1, 0, 0);
-  for (uint32_t i = 0; i < deep; i++) send(i % 4 == 3 ? 6 : 5, 20, i & 1, i & 1 ? 10001 + i : 9999 - i, 7, 0, 0);
+  for (uint32_t i = 0; i < deep; i++) send(i % 4 == 3 ? 6 : 5, 20, i & 1, i & 1 ? 10000 + STEP * (1 + i) : 10000 - STEP * (1 + i), 7, 0, 0);
   for (long i = deep + 1; i < count; i += 3) {
     const Entry *e = &s.entries[0];
-    send(9, 0, 0, 1 + below(50), 0, 50000 + below(50), 0);
+    send(9, 0, 0, 1 + below(50), 0, 50000 + STEP * below(50), 0);
     uint32_t kind = e->kind, sell = e->sell, limit = e->limit;
     send(7, 20, 0, 0, 0, 0, e->number);
     send(kind, 20, sell, limit, 7, 0, 0);
@@ -116,19 +119,19 @@ static void depth(long count, uint32_t deep) {
 
 /* Orders far from every other price, until this many entries rest */
 static void fill(uint32_t deep) {
-  for (uint32_t i = s.count; i < deep; i++) send(5, 20, i & 1, i & 1 ? 15000 + i : 5000 - i, 7, 0, 0);
+  for (uint32_t i = s.count; i < deep; i++) send(5, 20, i & 1, i & 1 ? 15000 + STEP * i : 5000 - STEP * i, 7, 0, 0);
 }
 
 /* 64 entries rest, and each message writes so many reports, 32 at most: of the entries all but one fewer are orders that never move, the
-   others MMRP quotes on both sides. The away prices (crossed, so that the sides do not meet) step by a cent and back: noted, and each quote
-   repriced. */
+   others MMRP quotes on both sides. The away prices (crossed, so that the sides do not meet) move by one step and back: noted, and each
+   quote repriced. */
 static void reports(long count, uint32_t number) {
   setup(0, 1, 1, 100, 20000);
   send(11, 0, 0, 0, 1, 0, 0);
   send(9, 0, 0, 10500, 0, 9500, 0);
-  for (uint32_t i = 0; i + 1 < number; i++) send(4, 1 + i / 2, i & 1, i & 1 ? 10490 : 9510, 7, 0, 0);
+  for (uint32_t i = 0; i + 1 < number; i++) send(4, 1 + i / 2, i & 1, i & 1 ? 10450 : 9550, 7, 0, 0);
   fill(PLACES);
-  for (long i = 0; i < count; i++) send(9, 0, 0, 10501 - (i & 1), 0, 9499 + (i & 1), 0);
+  for (long i = 0; i < count; i++) send(9, 0, 0, 10500 + STEP * !(i & 1), 0, 9500 - STEP * !(i & 1), 0);
 }
 
 /* 63 entries rest (at 64 an order would be refused), so many of them sells of one contract, each at its own price: a buy order takes just
@@ -138,8 +141,8 @@ static void sweeps(long count, uint32_t number) {
   send(11, 0, 0, 0, 1, 0, 0);
   fill(PLACES - 1 - number);
   for (long i = 0; i < count; i += number + 1) {
-    for (uint32_t j = 1; j <= number; j++) send(5, 20, 1, 10000 + j, 1, 0, 0);
-    send(5, 30, 0, 10000 + number, number, 0, 0);
+    for (uint32_t j = 1; j <= number; j++) send(5, 20, 1, 10000 + STEP * j, 1, 0, 0);
+    send(5, 30, 0, 10000 + STEP * number, number, 0, 0);
   }
 }
 
