@@ -200,10 +200,11 @@ def met_first(seed, flavour):
 def main():
     Series.checks = False
     faults = list(by_hand())
-    for seed, flavour in enumerate(FLAVOURS, 1):
+    flavours = [flavour for flavour in FLAVOURS if flavour != "setup"]      # of which few open a series
+    for seed, flavour in enumerate(flavours, 1):
         faults += met_first(seed, flavour)
     print("\n".join(faults) if faults else
-          "book_cases: %d books by hand and %d sessions are as they should be" % (len(CASES), len(FLAVOURS)))
+          "book_cases: %d books by hand and %d sessions are as they should be" % (len(CASES), len(flavours)))
     sys.exit(bool(faults))
 
 

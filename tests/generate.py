@@ -86,8 +86,10 @@ class Generator(Aiming):
                 setup[2] = rng.choice((1, 5, 5, setup[2] % 16))
                 setup[3] = min(setup[3], 127)
             else:
-                setup[spoilt] = rng.choice({2: (0, 2, 3, 4, 6, 9, 10, 10, 11, 15), 3: (101, 127),
+                setup[spoilt] = rng.choice({2: (0, 2, 3, 4, 6, 9, 11, 15), 3: (101, 127),
                                             4: (0, 100_001, 131_071), 5: (1, 2, 3)}[spoilt])
+            if rng.random() < 0.3:
+                setup[2] = 10                               # legal once, by document 01 alone
             return join(setup, SETUP_WIDTHS)[:rng.choice((0, 1, 3, 4, 4, 4, 4, 4))]
         return join(setup, SETUP_WIDTHS)
 
@@ -267,8 +269,9 @@ class Generator(Aiming):
             return rng.choice((0, 17, 99, 100, 127))
         if name == "quantity":
             return rng.choice((0, 100_000, 131_071))
-        near = self.near() + rng.randint(1, 9)              # on the grid, now and then
-        return rng.choice((0, near, near, near, small(m) - 1, 301, 305, TOP_PRICE + large(m), 131_071))
+        near = self.near()                                  # one small step on is no fault under 300
+        return rng.choice((0, near + rng.randint(1, 9), near + small(m), near + small(m), small(m) - 1, 301, 305,
+                           TOP_PRICE + large(m), 131_071))
 
     # ---- runs of messages
 
