@@ -36,6 +36,12 @@ pub not-either : (a b : Bool) → (not a && not b) ≡ not (a || b)
 not-either true b = refl
 not-either false b = refl
 
+-- two tests that hold together are one
+pub agree : (a b : Bool) → (a ≡ true → b ≡ true) → (b ≡ true → a ≡ true) → a ≡ b
+agree true b f g = sym (f refl)
+agree false true f g = g refl
+agree false false f g = refl
+
 -- the test whether two are the same
 pub beq-true : (a b : Bool) → Bool·beq a b ≡ true → a ≡ b
 beq-true true true e = refl

@@ -2,6 +2,7 @@ pub mod FrameLaws
 pub mod GridLaws
 pub mod CountLaws
 pub mod StepLaws
+pub mod NearLaws
 pub mod AimLaws
 pub mod RestLaws
 pub mod QuoteLaws

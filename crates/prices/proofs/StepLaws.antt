@@ -5,7 +5,7 @@
 use Prim.Native.Nat.{ℕ, _+_, _-_, _/_, _≤_, _<_, _%_, min}
 use mathlib.Core.Path.{_≡_, refl, sym, ap, _∙_}
 use mathlib.Core.Bool.{Bool, true, false, cond, not, _&&_, _||_}
-use native.Mathlib.Nat.{mod-one, div-one}
+use native.Mathlib.Nat.{mod-one, mod-self, div-one}
 use native.Mathlib.Omega.{arith}
 use borrow.Author.Tests.{leb-true, leb-false, eqb-true, eqb-false, le-leb, lt-ltb, le-ltb, eq-eqb, ne-eqb, not-true, not-false}
 use lib.Dec.{eqb, leb, ltb}
@@ -18,14 +18,16 @@ use Rattle.lists.proofs.Bools.{clash, and-left, and-right}
 
 -- ---- the tests as facts ----
 
-pub data Mpv : ℕ → Type 0 where
-  cent : Mpv 1
-  nickel : Mpv 5
+-- WHAT EVERY LAW KNOWS OF THE PAIR THAT M NAMES, whichever it is: it makes a grid, the top price lies on it, and neither step is longer than 10
+pub record Mpv (m : ℕ) : Type 0 where
+  pub grid : Grid (stepsOf m)
+  pub top : topPrice % stepsOf m .large ≡ 0
+  pub short : (m ≤ 10) × (stepsOf m .large ≤ 10)
 
--- each names a grid
-pub grid-of : {m : ℕ} → Mpv m → Grid (stepsOf m)
-grid-of cent = record { small-some = omega arith; large-some = omega arith; small-divides = refl; large-divides = refl }
-grid-of nickel = record { small-some = omega arith; large-some = omega arith; small-divides = refl; large-divides = refl }
+-- the pairs there are
+pub data Named : ℕ → Type 0 where
+  cent : Named 1
+  nickel : Named 5
 
 pub record Legal (m p : ℕ) : Type 0 where
   pub low : m ≤ p
@@ -36,14 +38,29 @@ pub record Legal (m p : ℕ) : Type 0 where
 pub record LegalIfAny (m p : ℕ) : Type 0 where
   pub legal : eqb p 0 ≡ false → Legal m p
 
-pub is-mpv : (m : ℕ) → mpv m ≡ true → Mpv m
+pub is-named : (m : ℕ) → mpv m ≡ true → Named m
 unfolding mpv
-is-mpv m h = go (eqb m 1) refl (eqb m 5) refl h
+is-named m h = go (eqb m 1) refl (eqb m 5) refl h
   where
-    go : (a : Bool) → eqb m 1 ≡ a → (b : Bool) → eqb m 5 ≡ b → (a || b) ≡ true → Mpv m
+    go : (a : Bool) → eqb m 1 ≡ a → (b : Bool) → eqb m 5 ≡ b → (a || b) ≡ true → Named m
     go true e b f k = rw (eqb-true m 1 e) cent
     go false e true f k = rw (eqb-true m 5 f) nickel
     go false e false f k = clash k refl
+
+pair-of : {m : ℕ} → Named m → Mpv m
+pair-of cent = record {
+  grid = record { small-some = omega arith; large-some = omega arith; small-divides = refl; large-divides = refl };
+  top = refl;
+  short = (omega arith, omega arith);
+}
+pair-of nickel = record {
+  grid = record { small-some = omega arith; large-some = omega arith; small-divides = refl; large-divides = refl };
+  top = refl;
+  short = (omega arith, omega arith);
+}
+
+pub is-mpv : (m : ℕ) → mpv m ≡ true → Mpv m
+is-mpv m h = pair-of (is-named m h)
 
 pub is-legal : (m p : ℕ) → legal m p ≡ true → Legal m p
 unfolding legal
@@ -80,11 +97,7 @@ given-legal a = record { legal = λ _. a }
 
 -- ---- the grid and the count by constant divisors, as the code has them ----
 
-pub one-or-five : {m : ℕ} → Mpv m → (m ≡ 1 → ⊥) → m ≡ 5
-one-or-five cent other = absurd (other refl)
-one-or-five nickel other = refl
-
-pub grid-below : {m : ℕ} → Mpv m → (p : ℕ) → p < change → (eqb m 1 || eqb (p % 5) 0) ≡ onGrid (stepsOf m) p
+pub grid-below : {m : ℕ} → Named m → (p : ℕ) → p < change → (eqb m 1 || eqb (p % 5) 0) ≡ onGrid (stepsOf m) p
 unfolding onGrid
 grid-below cent p h = rw (lt-ltb p change h) (sym (eq-eqb (p % 1) 0 (mod-one p)))
 grid-below nickel p h = rw (lt-ltb p change h)
@@ -97,7 +110,7 @@ grid-from m p h = rw (le-ltb p change h) (go (eqb m 1))
     go true = refl
     go false = refl
 
-pub rung-by : {m : ℕ} → Mpv m → (p : ℕ)
+pub rung-by : {m : ℕ} → Named m → (p : ℕ)
     → cond (eqb m 1) (p - (p - change) + (p - change) / 5) ((p - (p - change)) / 5 + (p - change) / 10) ≡ rung (stepsOf m) p
 unfolding rung
 rung-by cent p = rw (div-one (min p change)) (omega arith)
@@ -105,15 +118,12 @@ rung-by nickel p = let e : min p change ≡ p - (p - change) = omega arith in rw
 
 -- ---- the laws ----
 
-pub small : {m : ℕ} → Mpv m → (1 ≤ m) × (m ≤ 5)
-small cent = omega arith
-small nickel = omega arith
+pub small : {m : ℕ} → Mpv m → (1 ≤ m) × (m ≤ 10)
+small v = (v .grid .small-some, v .short .0)
 
 pub step-few : {m : ℕ} → Mpv m → (fine : Bool) → cond fine m (stepsOf m .large) ≤ 10
-step-few cent true = omega arith
-step-few cent false = omega arith
-step-few nickel true = omega arith
-step-few nickel false = omega arith
+step-few v true = v .short .0
+step-few v false = v .short .1
 
 -- the step below a legal price is no longer than the price
 pub step-within : {m p : ℕ} → Mpv m → Legal m p → cond (leb p change) m (stepsOf m .large) ≤ p
@@ -133,15 +143,15 @@ present {m} {p} v a = ne-eqb p 0 (λ e. omega (arith, positive v a))
 -- one step back is less aggressive
 pub back-lt : {m p : ℕ} (s : Bool) → Mpv m → Legal m p → seen s (back m s p) < seen s p
 unfolding seen back
-back-lt {m} {p} false v a = down-less (grid-of v) p (positive v a)
-back-lt {m} {p} true v a = omega (arith, up-more (grid-of v) p, a .high)
+back-lt {m} {p} false v a = down-less (v .grid) p (positive v a)
+back-lt {m} {p} true v a = omega (arith, up-more (v .grid) p, a .high)
 
 -- and no legal price lies between
 pub back-grid : {m p q : ℕ} (s : Bool) → Mpv m → Legal m p → Legal m q → seen s p < seen s q → seen s p ≤ seen s (back m s q)
 unfolding seen back
-back-grid {m} {p} {q} false v a b h = none-below (grid-of v) (a .grid) (b .grid) h
+back-grid {m} {p} {q} false v a b h = none-below (v .grid) (a .grid) (b .grid) h
 back-grid {m} {p} {q} true v a b h =
-    let qp : q < p = omega (arith, a .high, b .high, h) in omega (arith, none-above (grid-of v) (b .grid) (a .grid) qp)
+    let qp : q < p = omega (arith, a .high, b .high, h) in omega (arith, none-above (v .grid) (b .grid) (a .grid) qp)
 
 -- "an aim may fall one step outside the legal prices: 0, or 100,000 and one large step"
 pub back-high : {m p : ℕ} (s : Bool) → Mpv m → Legal m p → back m s p ≤ 100010
@@ -152,8 +162,8 @@ back-high {m} {p} true v a = omega (arith, step-few v (ltb p change), a .high)
 -- one step back lies on the grid,
 pub back-on : {m p : ℕ} (s : Bool) → Mpv m → Legal m p → OnGrid (stepsOf m) (back m s p)
 unfolding back
-back-on false v a = down-on (grid-of v) (a .grid) (positive v a)
-back-on true v a = up-on (grid-of v) (a .grid)
+back-on false v a = down-on (v .grid) (a .grid) (positive v a)
+back-on true v a = up-on (v .grid) (a .grid)
 
 -- and is legal where some legal price is no more aggressive
 pub back-legal : {m p q : ℕ} (s : Bool) → Mpv m → Legal m p → Legal m q → seen s q ≤ seen s (back m s p) → Legal m (back m s p)
@@ -163,11 +173,22 @@ back-legal true v a b h = record { low = omega (arith, a .low, back-lt true v a)
 
 -- the last price is the least aggressive legal one, and to be past it is to be less aggressive
 pub last-legal : {m : ℕ} (s : Bool) → Mpv m → Legal m (lastPrice m s)
-unfolding lastPrice onGrid
-last-legal false cent = record { low = omega arith; high = omega arith; grid = is-on-grid (stepsOf 1) 1 refl }
-last-legal false nickel = record { low = omega arith; high = omega arith; grid = is-on-grid (stepsOf 5) 5 refl }
-last-legal true cent = record { low = omega arith; high = omega arith; grid = is-on-grid (stepsOf 1) topPrice refl }
-last-legal true nickel = record { low = omega arith; high = omega arith; grid = is-on-grid (stepsOf 5) topPrice refl }
+unfolding lastPrice
+last-legal {m} false v = record {
+  low = omega arith;
+  high = omega (arith, v .short .0);
+  grid = record { fine = λ _. mod-self m; coarse = λ c. absurd (omega (arith, v .short .0, c)) };
+}
+last-legal true v = record {
+  low = omega (arith, v .short .0);
+  high = omega arith;
+  grid = record { fine = λ c. absurd (omega (arith, c)); coarse = λ _. v .top };
+}
+
+pub last-least : {m p : ℕ} (s : Bool) → Legal m p → seen s (lastPrice m s) ≤ seen s p
+unfolding seen lastPrice
+last-least false a = a .low
+last-least true a = omega (arith, a .high)
 
 pub within-last : (m p : ℕ) (s : Bool) → not (reaches s p (lastPrice m s)) ≡ false → seen s (lastPrice m s) ≤ seen s p
 within-last m p s e = reaches-true s p (lastPrice m s) (not-false (reaches s p (lastPrice m s)) e)
@@ -181,18 +202,18 @@ past-last {m} p s v h e =
 -- WHAT `apart` SAYS IS WHAT COUNTING ONE BY ONE GIVES: n steps back from l it says n, as long as they lead somewhere (below 0 there is nothing),
 pub counted : {m l : ℕ} (s : Bool) (n : ℕ) → Mpv m → Legal m l → (s ≡ false → n ≤ rung (stepsOf m) l) → apart m s l (after n (back m s) l) ≡ n
 unfolding apart back
-counted false n v a few = omega (arith, after-down (grid-of v) n (a .grid) (few refl) .1, few refl)
-counted true n v a few = omega (arith, after-up (grid-of v) n (a .grid) .1)
+counted false n v a few = omega (arith, after-down (v .grid) n (a .grid) (few refl) .1, few refl)
+counted true n v a few = omega (arith, after-up (v .grid) n (a .grid) .1)
 
 -- as many steps as it says lead from l to every d of the grid that is no more aggressive,
 pub counted-to : {m l d : ℕ} (s : Bool) → Mpv m → Legal m l → OnGrid (stepsOf m) d → Aggressive s l d → after (apart m s l d) (back m s) l ≡ d
 unfolding apart back
 counted-to {m} {l} {d} false v a b h =
-    let r = after-down (grid-of v) (rung (stepsOf m) l - rung (stepsOf m) d) (a .grid) (omega arith) in
-    same-rung (grid-of v) (r .0) b (omega (arith, r .1, rung-mono (grid-of v) d l h))
+    let r = after-down (v .grid) (rung (stepsOf m) l - rung (stepsOf m) d) (a .grid) (omega arith) in
+    same-rung (v .grid) (r .0) b (omega (arith, r .1, rung-mono (v .grid) d l h))
 counted-to {m} {l} {d} true v a b h =
-    let r = after-up (grid-of v) (rung (stepsOf m) d - rung (stepsOf m) l) (a .grid) in
-    same-rung (grid-of v) (r .0) b (omega (arith, r .1, rung-mono (grid-of v) l d h))
+    let r = after-up (v .grid) (rung (stepsOf m) d - rung (stepsOf m) l) (a .grid) in
+    same-rung (v .grid) (r .0) b (omega (arith, r .1, rung-mono (v .grid) l d h))
 
 -- and it is more than k exactly where d lies short of the price k steps back
 pub counted-past : {m l d : ℕ} (s : Bool) (k : ℕ) → Mpv m → Legal m l → OnGrid (stepsOf m) d
@@ -201,7 +222,7 @@ unfolding apart back
 counted-past {m} {l} {d} false k v a b = go (leb k (rung (stepsOf m) l)) refl
   where
     g : Grid (stepsOf m)
-    g = grid-of v
+    g = v .grid
 
     go : (t : Bool) → leb k (rung (stepsOf m) l) ≡ t
         → (k < rung (stepsOf m) l - rung (stepsOf m) d → d < after k (down (stepsOf m)) l)
@@ -216,7 +237,7 @@ counted-past {m} {l} {d} false k v a b = go (leb k (rung (stepsOf m) l)) refl
         let z = after-end g k (a .grid) (omega (arith, past)) in
         (λ h. absurd (omega (arith, past, h)), λ h. absurd (omega (arith, z, h)))
 counted-past {m} {l} {d} true k v a b =
-    let r = after-up (grid-of v) k (a .grid) in (
-      λ h. less-rung (grid-of v) (after k (up (stepsOf m)) l) d (omega (arith, r .1, h)),
-      λ h. omega (arith, r .1, rung-less (grid-of v) (r .0) b h),
+    let r = after-up (v .grid) k (a .grid) in (
+      λ h. less-rung (v .grid) (after k (up (stepsOf m)) l) d (omega (arith, r .1, h)),
+      λ h. omega (arith, r .1, rung-less (v .grid) (r .0) b h),
     )

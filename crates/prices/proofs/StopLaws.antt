@@ -11,10 +11,13 @@ use borrow.Author.Tests.{leb-true, leb-false, ltb-true, eqb-false, le-leb, lt-le
 use Rattle.lists.proofs.Bools.{clash, and-left, and-right}
 use Rattle.lists.proofs.FirstLaws.{Decides, AllDecide, TellsFirst, tells-first}
 use Rattle.kinds.specs.Kinds.{sliding, light}
-use Rattle.prices.specs.Side.{reaches}
-use Rattle.prices.specs.Step.{topPrice, stepsOf, lastPrice, rung, apart}
+use Rattle.prices.specs.Side.{Short, reaches}
+use Rattle.prices.specs.Step.{topPrice, stepsOf, back, lastPrice, rung, apart}
 use Rattle.prices.specs.Test.{holds, answers}
 use Rattle.prices.specs.Post.{test20, test21, test22, test23, stops, stopped}
+use Rattle.prices.proofs.GridLaws.{OnGrid}
+use Rattle.prices.proofs.CountLaws.{after}
+use Rattle.prices.proofs.StepLaws.{Mpv, Legal, counted-past}
 
 -- ---- p is x or more (sell: x or less), side by side ----
 
@@ -125,6 +128,14 @@ decides-22 m k kind true l d = (
     sell = λ _. omega (arith, ltb-true k (rung (stepsOf m) d - rung (stepsOf m) l) (and-right (sliding kind) _ h));
   },
   λ f. rw (f .slides, lt-ltb k (rung (stepsOf m) d - rung (stepsOf m) l) (omega (arith, f .sell refl))),
+)
+
+-- WHICH IS TO SAY, COUNTED ONE BY ONE: the display lies short of the price K steps back from the limit
+pub far-counted : {m l d : ℕ} (k kind : ℕ) (s : Bool) → Mpv m → Legal m l → OnGrid (stepsOf m) d
+    → Decides (holds s (test22 m k kind s l d)) ((sliding kind ≡ true) × Short s d (after k (back m s) l))
+far-counted {m} {l} {d} k kind s v a b = (
+  λ h. (and-left (sliding kind) _ h, counted-past s k v a b .0 (ltb-true k (apart m s l d) (and-right (sliding kind) _ h))),
+  λ f. rw (f .0, lt-ltb k (apart m s l d) (counted-past s k v a b .1 (f .1))),
 )
 
 -- ---- the reason that is told ----

@@ -4,13 +4,14 @@ use crate::aims::aims_of;
 use crate::side::is_reaching;
 use crate::side::keener;
 use crate::step::is_legal;
+use crate::step::last_price;
 use crate::step::one_back;
 use kinds::is_minding;
 ghost use mathlib.Core.Path.{_≡_};
 ghost use mathlib.Core.Bool.{true};
-ghost use Rattle.prices.specs.Step.{mpv};
+ghost use Rattle.prices.specs.Step.{mpv, legal};
 ghost use Rattle.prices.specs.Aims.{Bounds};
-ghost use Rattle.prices.specs.Rest.{marketable, restingPrices, atRest, stirsAt, slides};
+ghost use Rattle.prices.specs.Rest.{marketable, restingPrices, atRest, stirsAt, shownNear, slides};
 
 // Whether a quote has a trade to make: it takes, and aims at the contra price or beyond.
 pub fn is_marketable(kind: u32, sell: bool, contra: u32, aim: Prices) -> bool
@@ -56,18 +57,25 @@ pub fn is_stirring_at(
     is_marketable(kind, sell, contra, aim) | !is_at_rest(sell, display, working, aim)
 }
 
+// Whether a display is legal and at most one step behind a working price that is legal. It then is that price or the next one, so that no grid is asked.
+fn is_shown_near(m: u32, sell: bool, display: u32, working: u32) -> bool
+    requires { ⌜ (mpv m ≡ true) × (legal m working ≡ true) ⌝ }
+    ensures { λ r. ⌜ r ≡ shownNear m sell display working ⌝ }
+{
+    if display == working {
+        return true;
+    }
+    let step = one_back(m, sell, working);
+    (display == step) & is_reaching(sell, display, last_price(m, sell))
+}
+
 // Whether the prices are sound ones of a sliding quote.
 pub fn is_slide(m: u32, sell: bool, limit: u32, display: u32, working: u32) -> bool
     requires { ⌜ mpv m ≡ true ⌝ }
     ensures { λ r. ⌜ r ≡ slides m sell limit display working ⌝ }
 {
-    if !is_legal(m, display) {
-        return false;
-    }
     if !is_legal(m, working) {
         return false;
     }
-    let step = one_back(m, sell, working);
-    is_reaching(sell, working, display)
-        & (is_reaching(sell, display, step) & is_reaching(sell, limit, working))
+    is_shown_near(m, sell, display, working) & is_reaching(sell, limit, working)
 }

@@ -13,7 +13,7 @@ use lib.ListN.{length, replicate}
 use borrow.Author.Tests.{leb-true}
 use Rattle.bits.specs.Fields.{equal}
 use Rattle.prices.specs.Step.{mpv}
-use Rattle.prices.proofs.StepLaws.{is-mpv}
+use Rattle.prices.proofs.StepLaws.{is-named}
 use Rattle.lists.specs.Tests.{all, pairs}
 use Rattle.lists.proofs.Bools.{and-left, and-right}
 use Rattle.packing.specs.declared.setup.Setup.{Setup}
@@ -53,7 +53,7 @@ legal-sound x h =
     let rest = and-right step (leb (x .k) 100 && between 1 topStrike (x .strike)) h in
     facts-series (newSeries x .terms) (replicate 16 false) []
     (record {
-      step = mpv-step (is-mpv (x .m) (and-left step (leb (x .k) 100 && between 1 topStrike (x .strike)) h));
+      step = mpv-step (is-named (x .m) (and-left step (leb (x .k) 100 && between 1 topStrike (x .strike)) h));
       steps = leb-true (x .k) 100 (and-left (leb (x .k) 100) (between 1 topStrike (x .strike)) rest);
       strike = between-both 1 topStrike (x .strike) (and-right (leb (x .k) 100) (between 1 topStrike (x .strike)) rest);
       phase = omega arith;

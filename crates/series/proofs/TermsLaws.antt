@@ -10,7 +10,7 @@ use lib.Dec.{eqb, leb}
 use lib.ListN.{length}
 use borrow.Author.Tests.{leb-true, le-leb, eqb-true, not-true}
 use Rattle.prices.specs.Step.{mpv, legal, noneOrLegal}
-use Rattle.prices.proofs.StepLaws.{Mpv, cent, nickel, is-mpv}
+use Rattle.prices.proofs.StepLaws.{Named, cent, nickel, is-named}
 use Rattle.lists.specs.Tests.{any}
 use Rattle.lists.proofs.Bools.{and-parts}
 use Rattle.lists.proofs.PlaceLaws.{length-none}
@@ -28,7 +28,7 @@ use Rattle.packing.specs.Setup.{topStrike}
 
 -- ---- a series' numbers ----
 
-pub mpv-step : {m : ℕ} → Mpv m → (m ≡ 1) ⊎ (m ≡ 5)
+pub mpv-step : {m : ℕ} → Named m → (m ≡ 1) ⊎ (m ≡ 5)
 mpv-step cent = inl refl
 mpv-step nickel = inr refl
 
@@ -71,7 +71,7 @@ module _ (t : Terms) where
       let f = and-parts (noneOrLegal (t .m) (t .offer)) h₇ (e .1) in
       let g = and-parts (leb (t .underlying) topUnderlying) (leb (t .given) lastNumber) (f .1) in (
         record {
-          step = mpv-step (is-mpv (t .m) (a .0));
+          step = mpv-step (is-named (t .m) (a .0));
           steps = leb-true (t .k) 100 (b .0);
           strike = between-both 1 topStrike (t .strike) (c .0);
           phase = leb-true (t .phase) 2 (d .0);

@@ -3,12 +3,12 @@ use mathlib.Core.Bool.{cond}
 use borrow.Author.Tests.{ne-eqb, eq-eqb}
 use native.Mathlib.Omega.{arith}
 use lib.Dec.{eqb}
-use Rattle.prices.proofs.StepLaws.{is-mpv, grid-below, grid-from}
+use Rattle.prices.proofs.StepLaws.{is-named, grid-below, grid-from}
 use Rattle.prices.proofs.step.is_on_grid.Statement.{statement}
 use Rattle.prices.proofs.step.is_on_grid.Tie as tie
 
 returns : tie.Need-returns
-returns c = let start : tie.Start = search in grid-below (is-mpv _ (start .pre)) _ (c .if1 .taken)
+returns c = let start : tie.Start = search in grid-below (is-named _ (start .pre)) _ (c .if1 .taken)
 
 returns-2 : tie.Need-returns-2
 returns-2 c =

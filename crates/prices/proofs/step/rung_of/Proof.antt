@@ -1,7 +1,7 @@
 use borrow.Author.Needs.{needs}
 use native.Mathlib.Omega.{arith}
 use borrow.Author.Tests.{ne-eqb, eq-eqb}
-use Rattle.prices.proofs.StepLaws.{is-mpv, rung-by}
+use Rattle.prices.proofs.StepLaws.{is-named, rung-by}
 use Rattle.prices.proofs.step.rung_of.Statement.{statement}
 use Rattle.prices.proofs.step.rung_of.Tie as tie
 
@@ -18,7 +18,7 @@ returns : tie.Need-returns
 returns c =
     let start : tie.Start = search in
     let at-less : tie.After-less = search in
-    rw (← rung-by (is-mpv _ (start .pre)) (start .args .p), eq-eqb _ 1 (c .if1 .taken), ← at-less .less .ensures)
+    rw (← rung-by (is-named _ (start .pre)) (start .args .p), eq-eqb _ 1 (c .if1 .taken), ← at-less .less .ensures)
 
 add-result-2 : tie.Need-add-result-2
 add-result-2 c = search needs
@@ -27,7 +27,7 @@ returns-2 : tie.Need-returns-2
 returns-2 c =
     let start : tie.Start = search in
     let at-less : tie.After-less = search in
-    rw (← rung-by (is-mpv _ (start .pre)) (start .args .p), ne-eqb _ 1 (c .if1 .left), ← at-less .less .ensures)
+    rw (← rung-by (is-named _ (start .pre)) (start .args .p), ne-eqb _ 1 (c .if1 .left), ← at-less .less .ensures)
 
 pub rung-of-spec : {M : Type 1} → statement M
 rung-of-spec =
