@@ -112,10 +112,10 @@ static void lengths(void) {
 static void checks(void) {
   /* kind, party, side, price, quantity, m, answer */
   static const uint32_t table[][7] = {
-      {5, 20, 0, 15, 1, 1, 0},     {5, 20, 0, 15, 1, 5, 0},       {5, 20, 0, 15, 1, 10, 3},    {5, 20, 0, 16, 1, 5, 3},   {5, 20, 0, 0, 1, 1, 3},
-      {5, 20, 1, 100000, 1, 10, 0}, {5, 20, 1, 100001, 1, 1, 3},  {1, 16, 1, 20, 1, 10, 0},    {1, 17, 1, 20, 1, 10, 2},  {5, 99, 0, 20, 1, 5, 0},
+      {5, 20, 0, 15, 1, 1, 0},     {5, 20, 0, 15, 1, 5, 0},       {5, 20, 0, 305, 1, 5, 3},    {5, 20, 0, 16, 1, 5, 3},   {5, 20, 0, 0, 1, 1, 3},
+      {5, 20, 1, 100000, 1, 5, 0},  {5, 20, 1, 100005, 1, 1, 3},  {1, 16, 1, 310, 1, 5, 0},    {1, 17, 1, 20, 1, 5, 2},   {5, 99, 0, 20, 1, 5, 0},
       {5, 100, 0, 16, 0, 5, 2},    {5, 0, 0, 20, 1, 5, 2},        {5, 99, 0, 16, 0, 5, 3},     {5, 99, 0, 20, 0, 5, 4},   {5, 99, 0, 20, 99999, 5, 0},
-      {5, 99, 0, 20, 100000, 5, 4}, {11, 0, 0, 0, 2, 5, 0},       {11, 0, 0, 0, 3, 5, 4},      {11, 0, 1, 0, 3, 5, 1},    {10, 0, 0, 99999, 0, 10, 0},
+      {5, 99, 0, 20, 100000, 5, 4}, {11, 0, 0, 0, 2, 5, 0},       {11, 0, 0, 0, 3, 5, 4},      {11, 0, 1, 0, 3, 5, 1},    {10, 0, 0, 99999, 0, 5, 0},
       {13, 0, 0, 0, 0, 5, 1},      {0, 0, 0, 0, 0, 5, 1},         {12, 17, 0, 0, 0, 5, 2},     {8, 17, 0, 0, 0, 5, 2},    {7, 99, 0, 0, 0, 5, 0}};
   uint8_t *message = message_end - WAXGLIMMER_MESSAGE;
   for (size_t i = 0; i < sizeof table / sizeof *table; i++) {
@@ -124,7 +124,7 @@ static void checks(void) {
     if (waxglimmer_check(message, WAXGLIMMER_MESSAGE, row[5]) != row[6] || waxglimmer_check_at(message, WAXGLIMMER_MESSAGE, 0, row[5]) != row[6])
       fail("another answer to a check", i, row[6]);
     for (uint32_t m = 0; m < 300; m++)
-      if (m != 1 && m != 5 && m != 10)
+      if (m != 1 && m != 5)
         if (waxglimmer_check(message, WAXGLIMMER_MESSAGE, m) != 11 || waxglimmer_check_at(message, WAXGLIMMER_MESSAGE, 1, m) != 11)
           fail("a check took another M", i, m);
   }

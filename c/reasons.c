@@ -152,16 +152,18 @@ static const Case cases[] = {
      {MMLO, 1, BUY, 100, 5}, {{0, 21, 100, 100}}},
     {"21, a sell", FREE, {{DARK, 20, BUY, 150, 9}, {DARK, 21, BUY, 152, 9}}, {MMLO, 1, SELL, 149, 5}, {{0, 21, 149, 152}}},
     {"20 before 21", FREE, {{AWAY, 0, 0, 0, 220}, {DARK, 20, SELL, 219, 9}}, {MMLO, 1, BUY, 222, 5}, {{0, 20, 222, 220}}},
-    /* 22: how far the limit lies from the display, K times M */
+    /* 22: how many steps the limit lies from the display, K */
     {"b: 22 of an MMALO", TIGHT, {{ORDER, 20, SELL, 99, 1}, {AWAY, 0, 0, 0, 100}}, {MMALO, 1, BUY, 102, 5}, {{0, 22, 4, 3}}},
     {"d: 22 behind a trade", TIGHT, {{ORDER, 20, SELL, 99, 1}, {AWAY, 0, 0, 0, 100}}, {MMRP, 1, BUY, 103, 2}, {{0, 0, 0, 0}, {1, 22, 4, 3}}},
-    {"22 in cents", {0, 1, 5, 2, 200}, {{DARK, 20, SELL, 100, 5}}, {MMALO, 1, BUY, 110, 5}, {{0, 22, 15, 10}}},
+    {"22 in steps", {0, 1, 5, 2, 200}, {{DARK, 20, SELL, 100, 5}}, {MMALO, 1, BUY, 110, 5}, {{0, 22, 3, 2}}},
+    {"22 across 300", {0, 1, 1, 3, 200}, {{AWAY, 0, 0, 0, 300}}, {MMRP, 1, BUY, 315, 5}, {{0, 22, 4, 3}}},
+    {"22 across 300, a sell", {0, 1, 5, 3, 200}, {{AWAY, 0, 0, 300, 0}}, {MMRP, 1, SELL, 285, 5}, {{0, 22, 4, 3}}},
     {"22, a sell", TIGHT, {{ORDER, 20, BUY, 101, 5}, {AWAY, 0, 0, 100, 0}}, {MMALO, 1, SELL, 98, 5}, {{0, 22, 4, 3}}},
-    {"22, a sell by the away bid", {0, 1, 10, 0, 200}, {{AWAY, 0, 0, 150, 0}}, {MMRP, 1, SELL, 100, 5}, {{0, 22, 60, 0}}},
-    /* 23: the display, M (sell: 100,000) */
+    {"22, a sell by the away bid", {0, 1, 5, 0, 200}, {{AWAY, 0, 0, 150, 0}}, {MMRP, 1, SELL, 100, 5}, {{0, 22, 11, 0}}},
+    /* 23: the display, the small step (sell: 100,000) */
     {"h: 23", FREE, {{AWAY, 0, 0, 0, 1}}, {MMRP, 1, BUY, 1, 5}, {{0, 23, 0, 1}}},
-    {"23 at M 10", {0, 1, 10, 10, 200}, {{ORDER, 20, SELL, 10, 5}}, {MMALO, 1, BUY, 10, 5}, {{0, 23, 0, 10}}},
-    {"23, a sell", {0, 1, 5, 10, 200}, {{AWAY, 0, 0, 100000, 0}}, {MMRP, 1, SELL, 100000, 5}, {{0, 23, 100005, 100000}}},
+    {"23 at M 5", {0, 1, 5, 10, 200}, {{ORDER, 20, SELL, 5, 5}}, {MMALO, 1, BUY, 5, 5}, {{0, 23, 0, 5}}},
+    {"23, a sell", {0, 1, 5, 10, 200}, {{AWAY, 0, 0, 100000, 0}}, {MMRP, 1, SELL, 100000, 5}, {{0, 23, 100010, 100000}}},
     {"23 before 22", {0, 1, 1, 0, 200}, {{AWAY, 0, 0, 0, 1}}, {MMRP, 1, BUY, 1, 5}, {{0, 23, 0, 1}}},
     /* 24: bid, NBO + 100, or twice (bid - NBO), NBO (sell: twice (NBB - offer), NBB) */
     {"i: 24, NBO 100", FREE, {{AWAY, 0, 0, 0, 100}}, {PLAIN, 1, BUY, 200, 5}, {{0, 24, 200, 200}}},

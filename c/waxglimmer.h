@@ -9,7 +9,7 @@
  *  11  the state buffer holds no sound series, or has not WAXGLIMMER_STATE bytes
  *   1  a message (or a setup) of wrong length, unknown kind, a nonzero unused bit or field; a setup of other values
  *   2  party: outside 1 to 99; quotes, withdrawals of quotes and enabling: outside 1 to 16
- *   3  a price out of range, or off the grid of M (but for the underlying)
+ *   3  a price out of range, or off the grid (but for the underlying)
  *   4  quantity outside 1 to 99,999, or a phase above 2
  *   5  a quote or order, and the series is not open
  *   6  a quote, and its maker is blocked
@@ -18,7 +18,10 @@
  *   8  a cancellation: no such entry of that party, or no such quote
  *  12  why: the message has no report at that place
  *
- * Bytes: fields in bits, from the first byte's most significant bit on. What a kind does not name is 0. Prices are cents, multiples of M.
+ * Bytes: fields in bits, from the first byte's most significant bit on. What a kind does not name is 0. Prices are cents.
+ *
+ * M names two steps: 1 is 1 and 5 cents, 5 is 5 and 10; any other is refused. Prices lie from the small step to 100,000, below 300 on multiples of
+ * the small step, from 300 on on multiples of the large one. One step below 300 is 299 or 295, one step above it 305 or 310. K counts steps.
  *
  *   setup     put 1, exempt 1, M 4, K 7, strike 17, zero 2
  *               44 50 03 20: a call, exempt, M 1, K 10, strike 200
@@ -41,8 +44,8 @@
  *
  *  20  limit, away offer (away bid)                                             first >= second (<=)
  *  21  limit, the best undisplayed contra working price                          first >= second (<=)
- *  22  from the limit to the display it would get, K times M; both in cents      first > second
- *  23  the display it would get, M (100,000)                                     first < second (>)
+ *  22  from the limit to the display it would get, K; both in steps              first > second
+ *  23  the display it would get, the small step (100,000)                        first < second (>)
  *  24  NBO at most 100: bid, NBO + 100; above: twice (bid - NBO), NBO
  *      (twice (NBB - offer), NBB)                                                first >= second
  *  25  bid, underlying                                                           first >= second
@@ -87,9 +90,9 @@ extern "C" {
 #define WAXGLIMMER_STACK 98304 /* bytes of stack with which a thread can make every call: tried by c/test.sh, not proved */
 #define WAXGLIMMER_HANDLING_STACK 65536 /* the same of every call but waxglimmer_why and waxglimmer_why_at, which keep a room of their own */
 
-/* The aims of one quote. kind 3 (MMALO) or 4 (MMRP); side 0 buy, 1 sell; limit; away and contra price, 0 for none; m 1, 5 or 10.
- * Answers 0, 1 (another kind, side or m) or 3 (an illegal price). Both aims are written: 0 on a refusal. An aim may fall one m outside the
- * legal prices. */
+/* The aims of one quote. kind 3 (MMALO) or 4 (MMRP); side 0 buy, 1 sell; limit; away and contra price, 0 for none; m 1 or 5.
+ * Answers 0, 1 (another kind, side or m) or 3 (an illegal price). Both aims are written: 0 on a refusal. An aim may fall one step outside the
+ * legal prices: 0, or 100,000 and one large step. */
 uint32_t waxglimmer_aims(uint32_t kind, uint32_t side, uint32_t limit, uint32_t away, uint32_t contra, uint32_t m, uint32_t *display,
                          uint32_t *working);
 

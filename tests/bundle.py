@@ -2,8 +2,7 @@
 """Makes the bundle of the crate `test_lessons`: every lesson of tests/lessons and of
 tests/recorded in its reports, then every lesson of tests/lessons in the books it leaves, then
 every one in the reasons of its reports, the recorded ones that have them too, and what must be
-printed for each.  Of the recorded ones only those of at most SHORT bytes are told why, since the
-program reads no more than MOST bytes; tests/front_door.py and c/test.sh ask it of all.
+printed for each.
 
     python3 tests/bundle.py           writes crates/test_lessons/stdin and stdout
     python3 tests/bundle.py --check   only says whether they are up to date
@@ -26,7 +25,6 @@ from tables import keep
 HERE = os.path.dirname(os.path.abspath(__file__))
 REPORTS, BOOK, WHY = 0, 1, 2
 MOST = 262_144          # bytes that the program reads
-SHORT = 1_500           # bytes of a recorded lesson that is told why
 
 
 def part(data):
@@ -53,7 +51,7 @@ def parts():
         yield name + ", the book", BOOK, data, "".join(line + "\n" for line in books(data)).encode()
     for folder in ("lessons", "recorded"):
         for path, name, data in lessons_of(folder):
-            if folder == "lessons" or len(data) <= SHORT and os.path.exists(path + ".why"):
+            if os.path.exists(path + ".why"):
                 yield name + ", why", WHY, data, read(path + ".why")
 
 
