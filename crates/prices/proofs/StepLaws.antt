@@ -5,7 +5,7 @@
 use Prim.Native.Nat.{ℕ, _+_, _-_, _/_, _≤_, _<_, _%_, min}
 use mathlib.Core.Path.{_≡_, refl, sym, ap, _∙_}
 use mathlib.Core.Bool.{Bool, true, false, cond, not, _&&_, _||_}
-use native.Mathlib.Nat.{mod-one, mod-self, div-one}
+use native.Mathlib.Nat.{mod-self, div-one}
 use native.Mathlib.Omega.{arith}
 use borrow.Author.Tests.{leb-true, leb-false, eqb-true, eqb-false, le-leb, lt-ltb, le-ltb, eq-eqb, ne-eqb, not-true, not-false}
 use lib.Dec.{eqb, leb, ltb}
@@ -95,20 +95,11 @@ if-any-none = record { legal = λ e. absurd (eqb-false 0 0 e refl) }
 pub given-legal : {m p : ℕ} → Legal m p → LegalIfAny m p
 given-legal a = record { legal = λ _. a }
 
--- ---- the grid and the count by constant divisors, as the code has them ----
+-- ---- the pairs there are, and the count by constant divisors, as the code has it ----
 
-pub grid-below : {m : ℕ} → Named m → (p : ℕ) → p < change → (eqb m 1 || eqb (p % 5) 0) ≡ onGrid (stepsOf m) p
-unfolding onGrid
-grid-below cent p h = rw (lt-ltb p change h) (sym (eq-eqb (p % 1) 0 (mod-one p)))
-grid-below nickel p h = rw (lt-ltb p change h)
-
-pub grid-from : (m p : ℕ) → change ≤ p → cond (eqb m 1) (eqb (p % 5) 0) (eqb (p % 10) 0) ≡ onGrid (stepsOf m) p
-unfolding onGrid
-grid-from m p h = rw (le-ltb p change h) (go (eqb m 1))
-  where
-    go : (b : Bool) → cond b (eqb (p % 5) 0) (eqb (p % 10) 0) ≡ eqb (p % cond b 5 10) 0
-    go true = refl
-    go false = refl
+pub other-named : {m : ℕ} → Named m → (m ≡ 1 → ⊥) → m ≡ 5
+other-named cent other = absurd (other refl)
+other-named nickel other = refl
 
 pub rung-by : {m : ℕ} → Named m → (p : ℕ)
     → cond (eqb m 1) (p - (p - change) + (p - change) / 5) ((p - (p - change)) / 5 + (p - change) / 10) ≡ rung (stepsOf m) p

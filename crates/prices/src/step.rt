@@ -27,18 +27,33 @@ fn step_of(m: u32, fine: bool) -> u32
     if m == 1 { 5 } else { 10 }
 }
 
-// By constant divisors: a division by a step itself is slow. Most prices are below the change and have an M of 1, where every price lies on the grid.
+// The grid of each pair, by constant divisors: a division by a step itself is slow. With M 1 every price below the change lies on it.
+fn is_on_cent_grid(p: u32) -> bool
+    ensures { λ r. ⌜ r ≡ onGrid (stepsOf 1) p ⌝ }
+{
+    if p < CHANGE {
+        return true;
+    }
+    p % 5 == 0
+}
+
+fn is_on_nickel_grid(p: u32) -> bool
+    ensures { λ r. ⌜ r ≡ onGrid (stepsOf 5) p ⌝ }
+{
+    if p < CHANGE {
+        return p % 5 == 0;
+    }
+    p % 10 == 0
+}
+
 fn is_on_grid(m: u32, p: u32) -> bool
     requires { ⌜ mpv m ≡ true ⌝ }
     ensures { λ r. ⌜ r ≡ onGrid (stepsOf m) p ⌝ }
 {
-    if p < CHANGE {
-        return (m == 1) | (p % 5 == 0);
-    }
     if m == 1 {
-        return p % 5 == 0;
+        return is_on_cent_grid(p);
     }
-    p % 10 == 0
+    is_on_nickel_grid(p)
 }
 
 pub fn is_legal(m: u32, p: u32) -> bool

@@ -1,26 +1,23 @@
-use mathlib.Core.Path.{sym, _∙_}
-use mathlib.Core.Bool.{cond}
-use borrow.Author.Tests.{ne-eqb, eq-eqb}
-use native.Mathlib.Omega.{arith}
-use lib.Dec.{eqb}
-use Rattle.prices.proofs.StepLaws.{is-named, grid-below, grid-from}
+use borrow.Author.Needs.{needs}
+use Rattle.prices.proofs.StepLaws.{is-named, other-named}
 use Rattle.prices.proofs.step.is_on_grid.Statement.{statement}
 use Rattle.prices.proofs.step.is_on_grid.Tie as tie
 
+is-on-cent-grid-requires : tie.Need-is-on-cent-grid-requires
+is-on-cent-grid-requires c κs = search needs
+
 returns : tie.Need-returns
-returns c = let start : tie.Start = search in grid-below (is-named _ (start .pre)) _ (c .if1 .taken)
+returns c = let at-if1 : tie.Then1 = search in rw (at-if1 .if1 .taken) (c .is-on-cent-grid .ensures)
+
+is-on-nickel-grid-requires : tie.Need-is-on-nickel-grid-requires
+is-on-nickel-grid-requires c κs = search needs
 
 returns-2 : tie.Need-returns-2
 returns-2 c =
-    let start : tie.Start = search in
     let at-if1 : tie.Else1 = search in
-    rw (← grid-from (start .args .m) (start .args .p) (omega (arith, at-if1 .if1 .left)), eq-eqb _ 1 (c .if2 .taken))
-
-returns-3 : tie.Need-returns-3
-returns-3 c =
     let start : tie.Start = search in
-    let at-if1 : tie.Else1 = search in
-    rw (← grid-from (start .args .m) (start .args .p) (omega (arith, at-if1 .if1 .left)), ne-eqb _ 1 (c .if2 .left))
+    rw (other-named (is-named _ (start .pre)) (at-if1 .if1 .left)) (c .is-on-nickel-grid .ensures)
 
 pub is-on-grid-spec : {M : Type 1} → statement M
-is-on-grid-spec = tie.close (tie.spec returns returns-2 returns-3)
+is-on-grid-spec =
+    tie.close (tie.spec is-on-cent-grid-requires returns is-on-nickel-grid-requires returns-2)
