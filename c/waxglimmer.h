@@ -102,7 +102,7 @@ uint32_t waxglimmer_is_message(const uint8_t *message, size_t length);
 uint32_t waxglimmer_is_message_at(const uint8_t *run, size_t length, size_t at);
 
 /* Which of the refusals 1 to 4 would a series with this m give the message? The first that applies; 0 for none of them. First of all, 11
- * for an m that is not 1, 5 or 10, since no sound series has it. */
+ * for an m that is not 1 or 5, since no sound series has it. */
 uint32_t waxglimmer_check(const uint8_t *message, size_t length, uint32_t m);
 uint32_t waxglimmer_check_at(const uint8_t *run, size_t length, size_t at, uint32_t m);
 

@@ -9,15 +9,21 @@ use native.Mathlib.Omega.{arith}
 use lib.Dec.{eqb}
 use borrow.Author.Tests.{ne-eqb, not-true}
 use Rattle.prices.specs.declared.Market.{Market}
+use Rattle.prices.specs.declared.Prices.{Prices}
 use Rattle.prices.specs.Side.{reaches, away, Short}
+use Rattle.prices.specs.Step.{stepsOf, back}
+use Rattle.prices.specs.Aims.{aims}
 use Rattle.prices.specs.Test.{Test, holds, onlyFor, answers, reasonOf}
 use Rattle.prices.specs.Protect.{bars}
 use Rattle.prices.specs.Post.{stopped}
-use Rattle.kinds.specs.Kinds.{minds}
+use Rattle.kinds.specs.Kinds.{minds, sliding}
 use Rattle.prices.proofs.FrameLaws.{reaches-false, unreached, seen-short, short-seen}
-use Rattle.prices.proofs.StepLaws.{is-legal}
+use Rattle.prices.proofs.GridLaws.{OnGrid}
+use Rattle.prices.proofs.CountLaws.{after}
+use Rattle.prices.proofs.StepLaws.{Legal, is-legal}
+use Rattle.prices.proofs.AimLaws.{aimed}
 use Rattle.prices.proofs.ProtectLaws.{Barred, bars-decide, barred-high, barOrder}
-use Rattle.prices.proofs.StopLaws.{Stopped, stops-decide, stopped-first, stopped-low, stopOrder}
+use Rattle.prices.proofs.StopLaws.{Stopped, far-shown, is-22, decides-22, far-counted, stops-decide, stopped-first, stopped-low, stopOrder}
 use Rattle.lists.specs.Places.{At}
 use Rattle.lists.specs.Tests.{firstHolding}
 use Rattle.lists.specs.Choose.{Found, nowhere, found}
@@ -26,10 +32,10 @@ use Rattle.lists.proofs.TestLaws.{all-append}
 use Rattle.lists.proofs.FirstLaws.{only-first, Decides, AllDecide, onlyIf, only-if-decides, TellsFirst, tells-first}
 use Rattle.book.specs.declared.Entry.{Entry}
 use Rattle.book.specs.Entries.{quote}
-use Rattle.book.specs.Look.{eligible, bestContra, national}
+use Rattle.book.specs.Look.{contra, eligible, bestContra, national}
 use Rattle.book.proofs.LookLaws.{ContraTells, contra-tells}
 use Rattle.soundness_theory.proofs.Facts.{Sound}
-use Rattle.soundness_theory.proofs.FrontLaws.{cost-is}
+use Rattle.soundness_theory.proofs.FrontLaws.{cost-is, if-any-contra}
 use Rattle.soundness_theory.proofs.KeepLaws.{here-facts}
 use Rattle.soundness_theory.proofs.MarketFacts.{MarketFacts, sound-for}
 use Rattle.terms.specs.declared.Terms.{Terms}
@@ -57,6 +63,27 @@ module _ (t : Terms) (e : Entry) (l : List Entry) where
   stop-first so =
       stopped-first (t .m) (t .k) (e .kind) (e .sell) (e .limit) (away (marketOf t) (e .sell)) (hiddenFor e l) (HiddenInWay e l) (pricesOf t e l .display)
       (decides-21 e l so)
+
+  -- the display that it would get lies on the grid
+  display-on : {top : ℕ} → MarketFacts (marketOf t) → Sound (t .m) top l → Legal (t .m) (e .limit) → OnGrid (stepsOf (t .m)) (pricesOf t e l .display)
+  display-on k so a = go (sliding (e .kind))
+    where
+      aim : Prices
+      aim = aims (t .m) (e .kind) (e .sell) (e .limit) (away (marketOf t) (e .sell)) (contra (e .sell) l)
+
+      go : (b : Bool) → OnGrid (stepsOf (t .m)) (cond b aim (record { display = e .limit; working = e .limit }) .display)
+      go true = aimed (e .kind) (e .sell) (k .step) a (k .legal (e .sell)) (if-any-contra (e .sell) so) .near-display .on
+      go false = a .grid
+
+  -- 22, COUNTED ONE BY ONE: it says that the display would lie short of the price K steps back from the limit, in every sound book
+  pub far-in : {top : ℕ} → MarketFacts (marketOf t) → Sound (t .m) top l → Legal (t .m) (e .limit)
+      → (StoppedIn 22 → Short (e .sell) (pricesOf t e l .display) (after (t .k) (back (t .m) (e .sell)) (e .limit)))
+      × (sliding (e .kind) ≡ true → Short (e .sell) (pricesOf t e l .display) (after (t .k) (back (t .m) (e .sell)) (e .limit)) → StoppedIn 22)
+  far-in k so a =
+      let d : ℕ = pricesOf t e l .display in
+      let f = far-counted (t .k) (e .kind) (e .sell) (k .step) a (display-on k so a) in
+      let g = decides-22 (t .m) (t .k) (e .kind) (e .sell) (e .limit) d in
+      (λ h. f .0 (g .1 (is-22 h)) .1, λ q h. far-shown (g .0 (f .1 (q, h))))
 
   -- ---- why an arrival is rejected ----
 

@@ -43,7 +43,7 @@ table s event room =
     ∷ (1, isNothing event)
     -- "party outside 1-99; kinds 1-4, 8, 12: outside 1-16"
     ∷ (2, putTo event badParty)
-    -- "a price out of range or, but for the underlying, off the M grid (away: if not 0)"
+    -- "a price out of range or, but for the underlying, off the M grid (away: if not 0)"; "3 tests the new grid"
     ∷ (3, putTo event (badPrice (s .terms .m)))
     -- "quantity out of range, or phase above 2"
     ∷ (4, putTo event badQuantity)

@@ -25,7 +25,7 @@ use Rattle.kinds.specs.Kinds.{enters, quotes, carries, makers, cancelsEntry, ca
 abbrev pub badParty : Ask → Bool
 badParty a = cond (makers (a .kind)) (not (between 1 16 (a .party))) (cond (carries (a .kind)) (not (between 1 99 (a .party))) false)
 
--- 3: "a price out of range or, but for the underlying, off the M grid (away: if not 0)". Each away price is tested by itself: "Crossed
+-- 3: "a price out of range or, but for the underlying, off the M grid (away: if not 0)"; "3 tests the new grid". Each away price is tested by itself: "Crossed
 -- or locked away prices are accepted."
 abbrev pub badPrice : ℕ → Ask → Bool
 badPrice m a =

@@ -9,11 +9,12 @@ use borrow.Author.Tests.{leb-true, leb-false}
 use lib.Dec.{eqb, leb}
 use Rattle.prices.specs.declared.Prices.{Prices}
 use Rattle.prices.specs.Side.{meek}
-use Rattle.prices.specs.Step.{back}
+use Rattle.prices.specs.Step.{stepsOf, back}
 use Rattle.kinds.specs.Kinds.{minds}
 use Rattle.prices.specs.Aims.{minded, upTo, shortOf, aimDisplay, aimWorking, aims}
 use Rattle.prices.proofs.FrameLaws.{seen, seen-inj, seen-high, seen-meek, meek-either}
-use Rattle.prices.proofs.StepLaws.{Mpv, Legal, LegalIfAny, if-any-none, back-lt, back-grid, back-high, back-legal}
+use Rattle.prices.proofs.GridLaws.{OnGrid}
+use Rattle.prices.proofs.StepLaws.{Mpv, Legal, LegalIfAny, if-any-none, back-lt, back-grid, back-high, back-on, back-legal}
 
 pub back-mono : {m p q : ℕ} (s : Bool) → Mpv m → Legal m p → Legal m q → seen s p ≤ seen s q → seen s (back m s p) ≤ seen s (back m s q)
 back-mono {m} {p} {q} s v a b h = go (leb (seen s q) (seen s p)) refl
@@ -103,17 +104,18 @@ bound-keeps P s x b p hp hb = go (eqb x 0) refl
     go true e = hp
     go false e = meek-either P s p b hp (hb e)
 
--- ---- an aim may fall one step outside the legal prices: it is legal as soon as some legal price is no more aggressive ----
+-- ---- an aim may fall one step outside the legal prices: it lies on the grid, and is legal as soon as some legal price is no more aggressive ----
 
 pub record Near (m : ℕ) (s : Bool) (p : ℕ) : Type 0 where
+  pub on : OnGrid (stepsOf m) p
   pub high : p ≤ 100010
   pub legal : (q : ℕ) → Legal m q → seen s q ≤ seen s p → Legal m p
 
 near : {m p : ℕ} (s : Bool) → Legal m p → Near m s p
-near s a = record { high = omega (arith, a .high); legal = λ q b h. a }
+near s a = record { on = a .grid; high = omega (arith, a .high); legal = λ q b h. a }
 
 near-back : {m p : ℕ} (s : Bool) → Mpv m → Legal m p → Near m s (back m s p)
-near-back s v a = record { high = back-high s v a; legal = λ q b h. back-legal s v a b h }
+near-back s v a = record { on = back-on s v a; high = back-high s v a; legal = λ q b h. back-legal s v a b h }
 
 -- the aims of a quote with limit l, away price a and contra price x that it minds: all that other laws need of them
 pub record Aimed (m : ℕ) (s : Bool) (l a x : ℕ) (p : Prices) : Type 0 where

@@ -142,7 +142,7 @@ module _ {g : Steps} (v : Grid g) where
       go (inr k) (inl j) = omega (arith, down-coarse g q k, gap-coarse change-on b (omega arith) k, j)
       go (inr k) (inr j) = omega (arith, down-coarse g q k, gap-coarse a b j h)
 
-  -- A STEP DOWN UNDOES A STEP UP, and the other way about
+  -- A STEP DOWN UNDOES A STEP UP, and the other way about, but for 0, below which there is none
   pub down-up : {p : ℕ} → OnGrid g p → down g (up g p) ≡ p
   down-up {p} a = go (below-or-from p)
     where

@@ -107,6 +107,15 @@ unfolding rung
 rung-by cent p = rw (div-one (min p change)) (omega arith)
 rung-by nickel p = let e : min p change ≡ p - (p - change) = omega arith in rw e refl
 
+-- "One step below 300 is 299 or 295; one step above is 305 or 310."
+pub below-the-change : (down (stepsOf 1) 300 ≡ 299) × (down (stepsOf 5) 300 ≡ 295)
+unfolding down
+below-the-change = (refl, refl)
+
+pub above-the-change : (up (stepsOf 1) 300 ≡ 305) × (up (stepsOf 5) 300 ≡ 310)
+unfolding up
+above-the-change = (refl, refl)
+
 -- ---- the laws ----
 
 pub small : {m : ℕ} → Mpv m → (1 ≤ m) × (m ≤ 10)
@@ -144,7 +153,7 @@ back-grid {m} {p} {q} false v a b h = none-below (v .grid) (a .grid) (b .grid) h
 back-grid {m} {p} {q} true v a b h =
     let qp : q < p = omega (arith, a .high, b .high, h) in omega (arith, none-above (v .grid) (b .grid) (a .grid) qp)
 
--- "an aim may fall one step outside the legal prices: 0, or 100,000 and one large step"
+-- and no further out than 10
 pub back-high : {m p : ℕ} (s : Bool) → Mpv m → Legal m p → back m s p ≤ 100010
 unfolding back up down
 back-high false v a = omega (arith, a .high)

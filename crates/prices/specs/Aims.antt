@@ -14,14 +14,14 @@ use Rattle.prices.specs.Step.{mpv, noneOrLegal, back}
 unfoldable pub minded : ℕ → ℕ → ℕ
 minded kind c = cond (minds kind) c 0
 
--- "A missing A or C does not bind": the lesser of p and x, and of p and x-M
+-- "A missing A or C does not bind": the lesser of p and x, and of p and one step back from x
 unfoldable pub upTo : Bool → ℕ → ℕ → ℕ
 upTo s x p = cond (eqb x 0) p (meek s p x)
 
 unfoldable pub shortOf : ℕ → Bool → ℕ → ℕ → ℕ
 shortOf m s x p = cond (eqb x 0) p (meek s p (back m s x))
 
--- "MMALO: aim for display is the least of L, A-M, C-M; for working the least of L, A, C-M."
+-- Each "-M" is one step back. "MMALO: aim for display is the least of L, A-M, C-M; for working the least of L, A, C-M."
 -- "MMRP: aim for display is the lesser of L, A-M; for working the lesser of L, A."
 unfoldable pub aimDisplay : ℕ → ℕ → Bool → ℕ → ℕ → ℕ → ℕ
 aimDisplay m kind s l a c = shortOf m s (minded kind c) (shortOf m s a l)

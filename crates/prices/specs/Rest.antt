@@ -26,10 +26,11 @@ atRest s d w aim = eqb d (restingPrices s d aim .display) && eqb w (restingPrice
 unfoldable pub stirsAt : ℕ → ℕ → Bool → ℕ → ℕ → ℕ → ℕ → ℕ → Bool
 stirsAt m kind s l a c d w = marketable kind s c (aims m kind s l a c) || not (atRest s d w (aims m kind s l a c))
 
--- "for MMALO and MMRP, display and working price are legal, working is no less aggressive than display, by at most M [one step], and not beyond the limit"
+-- "display .. [is] legal, working is no less aggressive than display, by at most M": by at most one step
 abbrev pub shownNear : ℕ → Bool → ℕ → ℕ → Bool
 shownNear m s d w = legal m d && (reaches s w d && reaches s d (back m s w))
 
+-- "for MMALO and MMRP, display and working price are legal, working is no less aggressive than display, by at most M [one step], and not beyond the limit"
 unfoldable pub slides : ℕ → Bool → ℕ → ℕ → ℕ → Bool
 slides m s l d w =
     legal m d && (legal m w && (reaches s w d && (reaches s d (back m s w) && reaches s l w)))

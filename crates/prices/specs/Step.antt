@@ -1,6 +1,6 @@
 -- THE GRID: which prices are legal, what one step is, and how many steps lie between two prices. No rule outside this file and no law but its own
--- (proofs/GridLaws, CountLaws, StepLaws) knows how long a step is. What a sound price is stands once more, in plain words, in crate soundness
--- (specs/SoundBook).
+-- (proofs/GridLaws, CountLaws, StepLaws) knows how long a step is; but that what a sound price is stands once more, in plain words, in crate soundness
+-- (specs/SoundBook), and is the same (its proofs/DecideLaws).
 -- Assumes nothing.
 use Prim.Native.Nat.{ℕ, _+_, _-_, _/_, _%_, min}
 use mathlib.Core.Bool.{Bool, true, false, cond, _&&_, _||_}
@@ -51,7 +51,8 @@ legal m p = leb m p && (leb p topPrice && onGrid (stepsOf m) p)
 unfoldable pub noneOrLegal : ℕ → ℕ → Bool
 noneOrLegal m p = eqb p 0 || legal m p
 
--- one step back: "Every 'minus M' becomes one step", down for a buy's price, up for a sell's. "An aim may fall one M outside the legal prices."
+-- one step back: "Every 'minus M' becomes one step", down for a buy's price, up for a sell's. "An aim may fall one M [one step] outside the
+-- legal prices."
 unfoldable pub back : ℕ → Bool → ℕ → ℕ
 back m false p = down (stepsOf m) p
 back m true p = up (stepsOf m) p

@@ -14,7 +14,7 @@ pub struct Prices {
     pub working: u32,
 }
 
-// What prices are measured by: the step and the away prices (0: none).
+// What prices are measured by: the number that names the steps, and the away prices (0: none).
 pub struct Market {
     pub m: u32,
     pub bid: u32,

@@ -54,7 +54,7 @@ pub record SoundSeries (s : Series) : Type 0 where
   -- "every buy's working price is below every sell's;"
   pub uncrossed : EachTwo (s .book) Uncrossed
   -- "plain, MMLO and displayed orders display and work at the limit, dark ones work at the limit; for MMALO and MMRP, display and working price are legal,
-  -- working is no less aggressive than display, by at most M, and not beyond the limit;"
+  -- working is no less aggressive than display, by at most M [one step], and not beyond the limit;"
   pub prices : Each (s .book) (SoundPrices (s .terms .m))
   -- "unused places are zero"; "At most 64 resting entries."
   pub unused : UnusedZero (s .book)

@@ -26,7 +26,7 @@ abbrev pub faultOf : ℕ → Option Event → ℕ
 faultOf m none = nothing
 faultOf m (some e) = firstHolding (faults m (askOf e))
 
--- WHICH OF THE REFUSALS 1 TO 4 a series with this M gives the message, 0 for none of them; 11 for an M that is not 1, 5 or 10, since no
+-- WHICH OF THE REFUSALS 1 TO 4 a series with this M gives the message, 0 for none of them; 11 for an M that is not 1 or 5, since no
 -- sound series has it
 unfoldable pub checkAs : Option Event → ℕ → ℕ
 checkAs event m = cond (mpv m) (faultOf m event) 11

@@ -38,7 +38,7 @@ abbrev pub sized : ℕ → Entry → Bool
 sized m e = legal m (e .limit) && between 1 99999 (e .quantity)
 
 -- "plain, MMLO and displayed orders display and work at the limit, dark ones work at the limit; for MMALO and MMRP, display and working price are legal,
--- working is no less aggressive than display, by at most M, and not beyond the limit"
+-- working is no less aggressive than display, by at most M [one step], and not beyond the limit"
 unfoldable pub pricedAs : ℕ → ℕ → Bool → ℕ → ℕ → Pricing → Bool
 pricedAs m kind s limit w Fixed = (not (sliding kind) && not (dark kind)) && eqb w limit
 pricedAs m kind s limit w Dark = dark kind && eqb w limit
