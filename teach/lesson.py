@@ -61,10 +61,11 @@ def show(path):
 
 
 def tell(path, printed, reasons, resting):
-    messages = messages_of(read(path))
+    data = read(path)
+    messages = messages_of(data)
     both = zip_longest(lines_of(printed), lines_of(reasons), fillvalue="")      # a line of each for every report and refusal
     with open(resting, encoding="ascii", errors="backslashreplace") as book:
-        teller = Teller(messages, Reasons(Offers(messages, book)))
+        teller = Teller(messages, Reasons(Offers(messages, book)), data[:4])
         for number, (line, why) in enumerate(both, 1):
             try:
                 print("%-34s  %s" % (line, teller.sentence(line, why)))

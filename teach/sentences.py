@@ -8,6 +8,7 @@ that is told where the lesson's messages and the reports' reasons (reasons.py) a
 are not.
 """
 
+from causes import price_cause
 from packed import *
 from words import PAIRS, SIDE_WORDS, Mistake, message_words, quoted
 
@@ -47,10 +48,10 @@ def numbers_of(line):
 
 class Teller:
     """Says one line after the other.  `messages` are the packed messages of the lesson, or None; `reasons` is who says
-    what the lines of the view `why` tell, or None."""
+    what the lines of the view `why` tell, or None; `setup` are the bytes of the lesson's setup, or None."""
 
-    def __init__(self, messages=None, reasons=None):
-        self.messages, self.reasons, self.last = messages, reasons, 0
+    def __init__(self, messages=None, reasons=None, setup=None):
+        self.messages, self.reasons, self.setup, self.last = messages, reasons, setup, 0
         self.entered = {}       # entry number -> the message that entered it
         self.traded = set()     # who has been a taker
 
@@ -62,10 +63,16 @@ class Teller:
         if number == 0:
             return NO_SERIES
         if isinstance(answer, int):
-            return "message %d is refused for %d (%s)%s" % (number, answer, REFUSALS[answer], sent)
+            return "message %d is refused for %d (%s)%s" % (number, answer, self.cause(number, answer), sent)
         if answer[0] == NOTED:
             return "message %d is noted%s" % (number, sent)
         return self.told(reason, *answer)
+
+    def cause(self, number, refusal):
+        """Why a message is refused: for a price, which one, where setup and message are known."""
+        known = refusal == 3 and self.messages is not None and self.setup is not None
+        wrong = price_cause(self.setup, self.messages[number - 1]) if known else ""
+        return "price: " + wrong if wrong else REFUSALS[refusal]
 
     def sent(self, number, answer):
         """The message that a line is of, in words; the entry that it enters is kept."""

@@ -1,5 +1,6 @@
 #!/usr/bin/env python3
-"""Tries teach/reasons.py without the session program: what `tell` says of a report by the reason that stands beside it.
+"""Tries teach/reasons.py without the session program: what `tell` says of a report by the reason that stands beside it,
+and teach/causes.py: what it says of a price that is refused.
 
     python3 tests/reason_cases.py
 
@@ -154,11 +155,57 @@ def try_others():
             expect("%d on side %d" % (rule, side), one != "", said)
 
 
+# ---------------------------------------------------------------- refused prices
+
+M_1, M_5 = "setup call exempt M 1 K 3 strike 200", "setup put tested M 5 K 0 strike 100000"
+# Setup, message, and what `tell` says of its price; worked out from document 01's ranges and document 02, 2's steps.
+REFUSED = [
+    (M_1, "order buy 50 304 x 1", "limit 304 is off the grid, between 300 and 305"),
+    (M_1, "mmrp sell 4 301 x 10", "limit 301 is off the grid, between 300 and 305"),
+    (M_1, "mmalo buy 4 306 x 10", "limit 306 is off the grid, between 305 and 310"),
+    (M_1, "mmlo buy 4 99999 x 10", "limit 99999 is off the grid, between 99995 and 100000"),
+    (M_1, "plain sell 4 0 x 10", "limit 0 is out of range, which is 1 to 100000"),
+    (M_1, "dark sell 50 100001 x 1", "limit 100001 is out of range, which is 1 to 100000"),
+    (M_1, "away 299 303", "away offer 303 is off the grid, between 300 and 305"),
+    (M_1, "away 302 303", "away bid 302 is off the grid, between 300 and 305"),
+    (M_1, "away none 131071", "away offer 131071 is out of range, which is 1 to 100000"),
+    (M_1, "away 100005 none", "away bid 100005 is out of range, which is 1 to 100000"),
+    (M_1, "underlying 100001", "underlying 100001 is above 100000"),
+    (M_5, "order sell 50 297 x 1", "limit 297 is off the grid, between 295 and 300"),
+    (M_5, "dark buy 50 299 x 1", "limit 299 is off the grid, between 295 and 300"),
+    (M_5, "plain buy 3 305 x 1", "limit 305 is off the grid, between 300 and 310"),
+    (M_5, "mmlo sell 3 6 x 1", "limit 6 is off the grid, between 5 and 10"),
+    (M_5, "mmalo sell 3 4 x 1", "limit 4 is out of range, which is 5 to 100000"),
+    (M_5, "mmrp sell 3 99995 x 1", "limit 99995 is off the grid, between 99990 and 100000"),
+    (M_5, "away 3 none", "away bid 3 is out of range, which is 5 to 100000"),
+    (M_5, "away 295 305", "away offer 305 is off the grid, between 300 and 310"),
+    (M_5, "underlying 131071", "underlying 131071 is above 100000"),
+]
+# Such are refused for something else, or for nothing.
+NOT_FOR_3 = [(M_1, "away none none"), (M_1, "away 299 305"), (M_5, "away 5 100000"), (M_5, "away 295 310"), (M_5, "underlying 303"),
+             (M_1, "underlying none"), (M_5, "underlying 100000"), (M_1, "order buy 50 1 x 0"), (M_5, "dark buy 50 300 x 0"),
+             (M_1, "cancel 50 #304"), (M_1, "withdraw 3 buy"), (M_1, "enable 0"), (M_1, "phase 304"), (M_1, "bytes 40 60 07")]
+
+
+def try_refused_prices():
+    for setup, words, wrong in REFUSED:
+        data = bytes(one_lesson(("%s\n%s\n" % (setup, words)).encode(), "a lesson").data)
+        expect(words, session(data), ["1 refused 3"])
+        said = "%-34s  message 1 is refused for 3 (price: %s): %s\n" % ("1 refused 3", wrong, words)
+        expect(words, told(kept(data), session(data)), (0, said, ""))
+    for setup, words in NOT_FOR_3:
+        data = bytes(one_lesson(("%s\n%s\n" % (setup, words)).encode(), "a lesson").data)
+        expect(words, session(data)[0] != "1 refused 3", True)
+        out = told(kept(data), ["1 refused 3"])[1]
+        expect("another's refusal of " + words, "(price out of range or off the grid): " + words in out, True)
+
+
 if __name__ == "__main__":
     Series.checks = False
     with tempfile.TemporaryDirectory() as folder:
         os.chdir(folder)
-        for part in (try_lessons, try_recorded, try_halves, try_others):
+        for part in (try_lessons, try_recorded, try_halves, try_others, try_refused_prices):
             part()
         os.chdir(HERE)
-    finish("reason_cases", "%d lessons are told why as by hand, %d reasons of other reports are not said" % (len(LESSONS), len(OTHERS)))
+    finish("reason_cases", "%d lessons and %d refused prices are told why as by hand, %d reasons of other reports are not said"
+           % (len(LESSONS), len(REFUSED), len(OTHERS)))
