@@ -169,7 +169,7 @@ class Board:
 def drawn(data, lines, book):
     """The drawing of a whole lesson: its bytes, the lines that are printed for it, and those of the view `book`."""
     if lines == NO_SERIES:
-        return textwrap.wrap(Teller().sentence(*NO_SERIES), WIDTH, subsequent_indent="  ")
+        return textwrap.wrap(Teller(setup=data[:4]).sentence(*NO_SERIES), WIDTH, subsequent_indent="  ")
     answers, books, messages, board = answers_of(lines), books_of(book), messages_of(data), Board()
     if set(answers) != set(range(1, len(messages) + 1)) or not set(books) <= set(answers):
         raise Mistake("what was printed is of another lesson; expected: lines of its %d messages" % len(messages))

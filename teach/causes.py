@@ -9,6 +9,7 @@ That something is refused, and for which number, is what the session program pri
 from packed import *
 
 CHANGE = 300                            # in cents: below it prices move by the small step, from it on by the large one
+TOP_K = 100
 STEPS = {1: (1, 5), 5: (5, 10)}         # M -> the small step and the large one
 
 
@@ -41,3 +42,20 @@ def price_cause(setup, data):
     elif message.kind in ENTERING:
         prices = [("limit", message.price, no_price(setup[2], message.price))]
     return next(("%s %d %s" % (name, price, wrong) for name, price, wrong in prices if wrong), "")
+
+
+def setup_cause(data):
+    """What is wrong with a setup's bytes, all of it; nothing where they open a series."""
+    if len(data) != 4:
+        return "%d byte%s, and a setup has 4" % (len(data), "" if len(data) == 1 else "s")
+    put, exempt, m, k, strike, filling = cut(data, SETUP_WIDTHS)
+    wrong = []
+    if m not in STEPS:
+        wrong.append("M %d names no pair of steps: M is 1 or 5" % m)
+    if k > TOP_K:
+        wrong.append("K %d is above %d" % (k, TOP_K))
+    if not 1 <= strike <= TOP_PRICE:
+        wrong.append("strike %d is out of range, which is 1 to %d" % (strike, TOP_PRICE))
+    if filling != 0:
+        wrong.append("one of the last two bits is not 0")
+    return "; ".join(wrong)

@@ -8,7 +8,7 @@ that is told where the lesson's messages and the reports' reasons (reasons.py) a
 are not.
 """
 
-from causes import price_cause
+from causes import price_cause, setup_cause
 from packed import *
 from words import PAIRS, SIDE_WORDS, Mistake, message_words, quoted
 
@@ -28,7 +28,8 @@ REFUSALS = {1: "no message: length, kind, an unused bit or field that is not 0",
             8: "no such entry of that party, or no such quote",
             9: "the last entry number, 1,000,000, has been given"}
 
-NO_SERIES = "the setup is refused for 1 (length, or M, K or strike out of range; %s): no series" % PAIRS
+NO_SERIES = "the setup is refused for 1 (%s): no series"
+NO_SETUP = "length, or M, K or strike out of range; " + PAIRS       # where the setup is not known
 
 
 def numbers_of(line):
@@ -61,7 +62,7 @@ class Teller:
         sent = self.sent(number, answer) if self.messages is not None and number > 0 else ""
         reason = self.reasons.words(number, answer, why) if self.reasons is not None else ""
         if number == 0:
-            return NO_SERIES
+            return NO_SERIES % (self.setup is not None and setup_cause(self.setup) or NO_SETUP)
         if isinstance(answer, int):
             return "message %d is refused for %d (%s)%s" % (number, answer, self.cause(number, answer), sent)
         if answer[0] == NOTED:

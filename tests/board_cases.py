@@ -238,12 +238,10 @@ phase 3
 """), "no message at all": ("setup put tested M 1 K 10 strike 200\n", "", "", """\
 0 setup put tested M 1 K 10 strike 200
 """), "a setup that is refused": ("setup bytes 44 50\n", "0 refused 1\n", "0 refused 1\n", """\
-the setup is refused for 1 (length, or M, K or strike out of range; M 1 is 1 and
-  5 cents, M 5 is 5 and 10 cents): no series
+the setup is refused for 1 (2 bytes, and a setup has 4): no series
 """), "a setup that is refused before messages": (
     "setup call exempt M 10 K 10 strike 200\nopen\n", "0 refused 1\n", "0 refused 1\n", """\
-the setup is refused for 1 (length, or M, K or strike out of range; M 1 is 1 and
-  5 cents, M 5 is 5 and 10 cents): no series
+the setup is refused for 1 (M 10 names no pair of steps: M is 1 or 5): no series
 """)}
 
 # An entry before and after a message: display, working price and quantity; and the mark at its right.

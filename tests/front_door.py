@@ -25,6 +25,12 @@ LESSON = os.path.join(HERE, "recorded", "worked-session.bin")
 LINES = read(LESSON[:-4] + ".out")
 WORDS = read(os.path.join(ROOT, "teach", "lessons", "one-away-move.txt"))
 PATIENCE = 120
+# The lessons whose setup is refused, and why.
+NO_PAIR, NO_STRIKE = "M %d names no pair of steps: M is 1 or 5", "strike %d is out of range, which is 1 to 100000"
+NO_SETUPS = {"refused-setup-m-2": NO_PAIR % 2, "refused-setup-m-10": NO_PAIR % 10, "mixed-19": NO_PAIR % 10, "refused-setup-k-101": "K 101 is above 100",
+             "refused-setup-strike-0": NO_STRIKE % 0, "refused-setup-strike-100001": NO_STRIKE % 100001, "empty": "0 bytes, and a setup has 4",
+             "short-setup": "2 bytes, and a setup has 4", "refused-setup": "one of the last two bits is not 0",
+             "refused-setup-nonzero-filling": "one of the last two bits is not 0"}
 
 
 def door(*arguments, stdin=b"", script=DOOR, **how):
@@ -111,8 +117,9 @@ def try_book(path, text, name):
     said = door("session", "book", stdin=read(path, "rb"))[1]
     expect("book --lines " + name, (status, sorted(lines.splitlines()), err), (0, sorted(said.splitlines()), ""))
     if said == "0 refused 1\n":
-        expect("book " + name, picture, "the setup is refused for 1 (length, or M, K or strike out of range; M 1 is 1 and\n"
-                                        "  5 cents, M 5 is 5 and 10 cents): no series\n")
+        sentence = "the setup is refused for 1 (%s): no series" % NO_SETUPS[os.path.basename(path)[:-4]]
+        expect("book " + name, " ".join(picture.split()), sentence)
+        expect("tell " + name, door("tell", path), (0, "%-34s  %s\n" % ("0 refused 1", sentence), ""))
         return
     told = [line for line in picture.splitlines() if re.match(r"\d+ ", line)]
     expect("book's messages of " + name, told, text.splitlines())

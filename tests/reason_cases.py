@@ -1,6 +1,6 @@
 #!/usr/bin/env python3
 """Tries teach/reasons.py without the session program: what `tell` says of a report by the reason that stands beside it,
-and teach/causes.py: what it says of a price that is refused.
+and teach/causes.py: what it says of a price or a setup that is refused.
 
     python3 tests/reason_cases.py
 
@@ -14,6 +14,7 @@ import re
 import tempfile
 from collections import Counter
 
+from board import drawn
 from cases import HERE, every_lesson, expect, finish, read
 from lesson_cases import made_up, reason_told, told
 from model import Series, books, open_series, session
@@ -155,7 +156,7 @@ def try_others():
             expect("%d on side %d" % (rule, side), one != "", said)
 
 
-# ---------------------------------------------------------------- refused prices
+# ---------------------------------------------------------------- refused prices and setups
 
 M_1, M_5 = "setup call exempt M 1 K 3 strike 200", "setup put tested M 5 K 0 strike 100000"
 # Setup, message, and what `tell` says of its price; worked out from document 01's ranges and document 02, 2's steps.
@@ -200,12 +201,37 @@ def try_refused_prices():
         expect("another's refusal of " + words, "(price out of range or off the grid): " + words in out, True)
 
 
+NO_PAIR = "M %d names no pair of steps: M is 1 or 5"
+# Setups that are refused, and all that is wrong with each.
+NO_SETUPS = [
+    ("call exempt M 10 K 3 strike 200", NO_PAIR % 10), ("put tested M 0 K 100 strike 100000", NO_PAIR % 0), ("call tested M 2 K 0 strike 1", NO_PAIR % 2),
+    ("call exempt M 1 K 101 strike 200", "K 101 is above 100"), ("put exempt M 5 K 127 strike 200", "K 127 is above 100"),
+    ("call exempt M 1 K 3 strike 0", "strike 0 is out of range, which is 1 to 100000"),
+    ("call exempt M 5 K 3 strike 100001", "strike 100001 is out of range, which is 1 to 100000"),
+    ("call exempt M 15 K 101 strike 131071", NO_PAIR % 15 + "; K 101 is above 100; strike 131071 is out of range, which is 1 to 100000"),
+    ("bytes", "0 bytes, and a setup has 4"), ("bytes 44", "1 byte, and a setup has 4"), ("bytes 44 50 03", "3 bytes, and a setup has 4"),
+    # 0 1 0001 0001010 00000000011001000 and two bits: call exempt M 1 K 10 strike 200
+    ("bytes 44 50 03 21", "one of the last two bits is not 0"), ("bytes 44 50 03 22", "one of the last two bits is not 0"),
+    ("bytes 68 50 03 23", NO_PAIR % 10 + "; one of the last two bits is not 0"),
+]
+
+
+def try_refused_setups():
+    for words, wrong in NO_SETUPS:
+        data = bytes(one_lesson(("setup %s\n" % words).encode(), "a lesson").data)
+        data += Message(PHASE, quantity=OPEN).pack() if len(data) == 4 else b""
+        expect(words, session(data), ["0 refused 1"])
+        sentence = "the setup is refused for 1 (%s): no series" % wrong
+        expect(words, told(kept(data), session(data)), (0, "%-34s  %s\n" % ("0 refused 1", sentence), ""))
+        expect("book of " + words, " ".join(" ".join(drawn(data, session(data), books(data))).split()), sentence)
+
+
 if __name__ == "__main__":
     Series.checks = False
     with tempfile.TemporaryDirectory() as folder:
         os.chdir(folder)
-        for part in (try_lessons, try_recorded, try_halves, try_others, try_refused_prices):
+        for part in (try_lessons, try_recorded, try_halves, try_others, try_refused_prices, try_refused_setups):
             part()
         os.chdir(HERE)
-    finish("reason_cases", "%d lessons and %d refused prices are told why as by hand, %d reasons of other reports are not said"
-           % (len(LESSONS), len(REFUSED), len(OTHERS)))
+    finish("reason_cases", "%d lessons, %d refused prices and %d refused setups are told why as by hand, %d reasons of other reports are not said"
+           % (len(LESSONS), len(REFUSED), len(NO_SETUPS), len(OTHERS)))
