@@ -170,10 +170,11 @@ def message_words(data):
 
 
 def setup_words(data):
-    setup = unpack_setup(data)
-    if setup is None:
+    """What the bytes of a setup say, also where it is refused; bytes where a length or a filling bit is wrong."""
+    *fields, filling = cut(data, SETUP_WIDTHS)
+    if len(data) != 4 or filling != 0:
         return ("bytes " + data.hex(" ")).rstrip()
-    put, exempt, m, k, strike = setup
+    put, exempt, m, k, strike = fields
     return "%s %s M %d K %d strike %d" % (("call", "put")[put], ("tested", "exempt")[exempt],
                                           m, k, strike)
 

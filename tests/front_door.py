@@ -27,9 +27,8 @@ WORDS = read(os.path.join(ROOT, "teach", "lessons", "one-away-move.txt"))
 PATIENCE = 120
 # The lessons whose setup is refused, and why.
 NO_PAIR, NO_STRIKE = "M %d names no pair of steps: M is 1 or 5", "strike %d is out of range, which is 1 to 100000"
-NO_SETUPS = {"refused-setup-m-2": NO_PAIR % 2, "refused-setup-m-10": NO_PAIR % 10, "mixed-19": NO_PAIR % 10, "refused-setup-k-101": "K 101 is above 100",
-             "refused-setup-strike-0": NO_STRIKE % 0, "refused-setup-strike-100001": NO_STRIKE % 100001, "empty": "0 bytes, and a setup has 4",
-             "short-setup": "2 bytes, and a setup has 4", "refused-setup": "one of the last two bits is not 0",
+NO_SETUPS = {"refused-setup-m-2": NO_PAIR % 2, "refused-setup-m-10": NO_PAIR % 10, "refused-setup-k-101": "K 101 is above 100",
+             "refused-setup-strike-0": NO_STRIKE % 0, "refused-setup-strike-100001": NO_STRIKE % 100001,
              "refused-setup-nonzero-filling": "one of the last two bits is not 0"}
 
 

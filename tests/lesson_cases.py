@@ -209,7 +209,18 @@ def try_recorded_or_words():
     expect("a text in utf-16-be", made("\ufeff" + text, "utf-16-be"), (wanted, (0, "", "")))
 
 
+# Bytes of a setup, cut by hand into 1, 1, 4, 7, 17 and 2 bits, and what is shown of them.
+SETUPS = [
+    ("68180320", "call exempt M 10 K 3 strike 200"), ("44500320", "call exempt M 1 K 10 strike 200"),
+    ("47280320", "call exempt M 1 K 101 strike 200"), ("44500000", "call exempt M 1 K 10 strike 0"),
+    ("00000000", "call tested M 0 K 0 strike 0"), ("fffffffc", "put exempt M 15 K 127 strike 131071"),
+    ("44500321", "bytes 44 50 03 21"), ("44500322", "bytes 44 50 03 22"), ("445003", "bytes 44 50 03"), ("", "bytes"),
+]
+
+
 def try_round_trips():
+    for data, words in SETUPS:
+        expect("setup " + data, (setup_words(bytes.fromhex(data)), setup_bytes(words).hex()), (words, data))
     for path in every_lesson():
         status, shown, err = run("show", path)
         data, said = made(shown)
