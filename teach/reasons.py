@@ -18,7 +18,7 @@ from packed import *
 from words import SIDE_WORDS, Mistake, quoted
 
 HIDDEN = "%d, the best price at which undisplayed interest works on the other side"
-TOO_FAR = "the display would stand %s from the limit, more than the %d allowed"        # some steps, and K
+TOO_FAR = "the display would stand %s from the limit, more than K, which is %d"        # some steps, and K
 
 # Of a buy, and of a sell.
 SENTENCES = {

@@ -15,7 +15,7 @@ from words import PAIRS, SIDE_WORDS, Mistake, message_words, quoted
 NAMES = {PLAIN: "plain", MMLO: "MMLO", MMALO: "MMALO", MMRP: "MMRP",
          ORDER: "displayed", DARK: "dark"}
 REASONS = {20: "at or through the away price", 21: "undisplayed interest in an MMLO's way",
-           22: "shown too far from its limit", 23: "no legal price to show",
+           22: "would be shown more than K steps from its limit", 23: "no legal price to show",
            24: "too far through NBO or NBB", 25: "a call's bid at or above the underlying",
            26: "a put's bid at or above the strike", 27: "replaced", 28: "owner asked",
            29: "the rest of the maker's quote on the opposite side was cancelled",

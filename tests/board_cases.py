@@ -207,8 +207,8 @@ phase 3
   -- sells above -- away bid 90, offer 100 -- open -- buys below --
       4     5  MMALO quote     101     99    100         1  was 98/98
   gone: entry 2, cancelled for 27 (replaced)
-  never rested: entry 5, 100 contracts traded, the rest cancelled for 22 (shown
-    too far from its limit)
+  never rested: entry 5, 100 contracts traded, the rest cancelled for 22 (would
+    be shown more than K steps from its limit)
   gone: entry 1, traded away
   gone: entry 3, cancelled for 29 (the rest of the maker's quote on the opposite
     side was cancelled)

@@ -108,8 +108,8 @@ SAID_ALONE = {
     "4 2 26 0 3 3 0 200 0 1": "party 3's buy, entry 3, is rejected for 26 (a put's bid at or above the"
                               " strike): limit 200, 1 contract",
     "7 3 0 1 4 3 2 215 0 4": "party 4's sell, entry 3, trades as taker with entry 2: at 215, 4 contracts",
-    "7 6 22 0 3 4 0 103 0 1": "party 3's buy, entry 4, is cancelled for 22 (shown too far from"
-                              " its limit): limit 103, 1 contract",
+    "7 6 22 0 3 4 0 103 0 1": "party 3's buy, entry 4, is cancelled for 22 (would be shown more than K steps"
+                              " from its limit): limit 103, 1 contract",
 }
 NO_LINES = ["", "open", "1 1 0 0 0 0 0 0 0", "1 7 0 0 0 0 0 0 0 0", "1 refused 12", "0 refused 2",
             "0 1 0 0 0 0 0 0 0 0", "1 6 9 0 3 1 0 5 0 1", "1 4 0 2 3 1 0 5 5 1"]

@@ -101,11 +101,11 @@ LESSONS = {
         mmalo buy 3 101 x 1
             none
         mmalo buy 3 102 x 1
-            22 4 3: the display would stand 4 steps from the limit, more than the 3 allowed
+            22 4 3: the display would stand 4 steps from the limit, more than K, which is 3
             30 0 0
         mmrp buy 3 103 x 2
             none
-            22 4 3: the display would stand 4 steps from the limit, more than the 3 allowed""",
+            22 4 3: the display would stand 4 steps from the limit, more than K, which is 3""",
     "22 of a sell, with steps of 5 cents": """
         setup put exempt M 5 K 2 strike 200
         open
@@ -115,12 +115,12 @@ LESSONS = {
         mmrp sell 3 195 x 1
             none
         mmrp sell 4 190 x 1
-            22 3 2: the display would stand 3 steps from the limit, more than the 2 allowed
+            22 3 2: the display would stand 3 steps from the limit, more than K, which is 2
         order buy 50 205 x 2
             none
             none
         mmalo sell 4 190 x 1
-            22 4 2: the display would stand 4 steps from the limit, more than the 2 allowed""",
+            22 4 2: the display would stand 4 steps from the limit, more than K, which is 2""",
     "22 where K is 0": """
         setup call exempt M 5 K 0 strike 200
         open
@@ -128,7 +128,7 @@ LESSONS = {
         away none 100
             none
         mmrp buy 3 100 x 1
-            22 1 0: the display would stand 1 step from the limit, more than the 0 allowed
+            22 1 0: the display would stand 1 step from the limit, more than K, which is 0
         mmrp buy 3 95 x 1
             none""",
     "22 across three dollars, where a step is 1 cent below and 5 above": """
@@ -140,12 +140,12 @@ LESSONS = {
         mmrp buy 3 310 x 1
             none
         mmrp buy 4 315 x 1
-            22 4 3: the display would stand 4 steps from the limit, more than the 3 allowed
+            22 4 3: the display would stand 4 steps from the limit, more than K, which is 3
         away 300 none
             none
             none
         mmalo sell 4 297 x 1
-            22 6 3: the display would stand 6 steps from the limit, more than the 3 allowed
+            22 6 3: the display would stand 6 steps from the limit, more than K, which is 3
         mmalo sell 4 300 x 1
             none""",
     "23: no legal price to show; it comes before 22": """
