@@ -10,7 +10,7 @@ are not.
 
 from causes import price_cause, setup_cause
 from packed import *
-from words import PAIRS, SIDE_WORDS, Mistake, message_words, quoted
+from words import SIDE_WORDS, Mistake, message_words, quoted
 
 NAMES = {PLAIN: "plain", MMLO: "MMLO", MMALO: "MMALO", MMRP: "MMRP",
          ORDER: "displayed", DARK: "dark"}
@@ -29,7 +29,7 @@ REFUSALS = {1: "no message: length, kind, an unused bit or field that is not 0",
             9: "the last entry number, 1,000,000, has been given"}
 
 NO_SERIES = "the setup is refused for 1 (%s): no series"
-NO_SETUP = "length, or M, K or strike out of range; " + PAIRS       # where the setup is not known
+NO_SETUP = "length, an unused bit, or M, K or strike out of range; M is 1 or 5"     # where the setup is not known
 
 
 def numbers_of(line):

@@ -60,8 +60,7 @@ VALUES = {"PAIR": ("m", 4), "STEPS": ("k", 7), "STRIKE": ("strike", 17),
           "DISPLAY": ("price", 17), "WORKING": ("second", 17), "QUANTITY": ("quantity", 17),
           "PHASE": ("quantity", 17), "REASON": ("reason", 5), "REFUSAL": ("refusal", 4)}
 MAY_BE_NONE = ("BID", "OFFER", "PRICE")
-PAIRS = "M 1 is 1 and 5 cents, M 5 is 5 and 10 cents"      # the steps below 300 and from there on
-BESIDES = {"PAIR": ": " + PAIRS, **{name: ", or none" for name in MAY_BE_NONE}}
+PAIRS = "M is 1 (steps of 1 cent below 300 and 5 from there on) or 5 (5 and 10)"
 
 
 class Mistake(Exception):
@@ -86,8 +85,10 @@ def value_of(name, word):
     digits = word[1:] if name[0] == word[0] == "#" else word
     top = (1 << VALUES[name][1]) - 1
     if not (digits.isascii() and digits.isdigit() and len(digits) < 10 and int(digits) <= top):
+        if name == "PAIR":
+            raise Mistake("%s is no PAIR: %s; any other whole number up to %d fits, and is refused" % (quoted(word), PAIRS, top))
         raise Mistake("%s is no %s, which is a whole number from 0 to %d%s"
-                      % (quoted(word), name, top, BESIDES.get(name, "")))
+                      % (quoted(word), name, top, ", or none" if name in MAY_BE_NONE else ""))
     return int(digits)
 
 

@@ -44,8 +44,9 @@ FILES = [
     ("lesson\n" + SETUP + "\n", 1, "0 words after `lesson`"),
     ("setup\n", 1, "call|put tested|exempt M PAIR K STEPS strike STRIKE is missing"),
     ("setup cal exempt M 1 K 10 strike 200\n", 1, "'cal' is neither call nor put"),
-    ("setup call exempt M 16 K 10 strike 200\n", 1, "'16' is no PAIR, which is a " + TOP % 15
-     + ": M 1 is 1 and 5 cents, M 5 is 5 and 10 cents; expected"),
+    ("setup call exempt M 16 K 10 strike 200\n", 1, "'16' is no PAIR: M is 1 (steps of 1 cent below 300 and 5 from there on)"
+     " or 5 (5 and 10); any other whole number up to 15 fits, and is refused; expected: setup call|put"),
+    ("setup call exempt M five K 10 strike 200\n", 1, "'five' is no PAIR: M is 1 (steps of 1 cent below 300 and 5"),
     ("setup call exempt M 1 K 128 strike 200\n", 1, "'128' is no STEPS, which is a " + TOP % 127),
     ("setup call exempt M 1 K 10 strike 131072\n", 1, "'131072' is no STRIKE"),
     ("setup call exempt N 1 K 10 strike 200\n", 1, "'N' stands in the place of M"),
@@ -103,8 +104,7 @@ maker 4's MMRP buy quote, entry 3, is repriced: shown 220, works 220, 26 contrac
 """
 SAID_ALONE = {
     "5 refused 6": "message 5 is refused for 6 (the maker is blocked)",
-    "0 refused 1": "the setup is refused for 1 (length, or M, K or strike out of range; M 1 is 1 and 5 cents, M 5 is"
-                   " 5 and 10 cents): no series",
+    "0 refused 1": "the setup is refused for 1 (length, an unused bit, or M, K or strike out of range; M is 1 or 5): no series",
     "4 2 26 0 3 3 0 200 0 1": "party 3's buy, entry 3, is rejected for 26 (a put's bid at or above the"
                               " strike): limit 200, 1 contract",
     "7 3 0 1 4 3 2 215 0 4": "party 4's sell, entry 3, trades as taker with entry 2: at 215, 4 contracts",
