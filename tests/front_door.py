@@ -79,6 +79,8 @@ def try_help():
         expect("help by %s" % (arguments,), door(*arguments), wanted)
     for command in PLAYING + ("make", "test"):
         expect("help names " + command, "./waxglimmer %s " % command in wanted[1], True)
+    steps = "M 1: steps of 1 cent below 300 and 5 from there on; M 5: 5 and 10; K counts steps"
+    expect("help says what M and K are", steps in wanted[1].replace("\n", " "), True)
     example = "".join(re.findall(r"^    (\w.*\n)", wanted[1], re.M))
     expect("help's example is played", door("run", stdin=example)[1].split("\n")[0], "1 1 0 0 0 0 0 0 0 0")
     for typed, right in (("rnu", "run"), ("runn", "run"), ("ru", "run"), ("fun", "run"), ("shwo", "show"), ("tel", "tell"), ("wy", "why"),
