@@ -1,6 +1,6 @@
 -- THE GRID: which prices are legal, what one step is, and how many steps lie between two prices. No rule outside this file and no law but its own
--- (proofs/GridLaws, CountLaws, StepLaws) knows how long a step is; but that what a sound price is stands once more, in plain words, in crate soundness
--- (specs/SoundBook), and is the same (its proofs/DecideLaws).
+-- (proofs/GridLaws, CountLaws, StepLaws) knows how long a step is. What a sound price is stands once more, in plain words, in crate soundness
+-- (specs/SoundBook); that it is the same, its proofs/DecideLaws say.
 -- Assumes nothing.
 use Prim.Native.Nat.{ℕ, _+_, _-_, _/_, _%_, min}
 use mathlib.Core.Bool.{Bool, true, false, cond, _&&_, _||_}
