@@ -1,16 +1,16 @@
 -- HOW MANY STEPS, FOR ANY PAIR OF STEPS: the closed form `rung` is what counting one by one gives, up and down, across the change.
 -- Assumes nothing.
-use Prim.Native.Nat.{ℕ, zero, suc, _+_, _-_, _*_, _/_, _≤_, _<_, min}
+use Prim.Native.Nat.{ℕ, zero, suc, _+_, _-_, _/_, _≤_, _<_, min}
 use mathlib.Core.Path.{_≡_, refl, sym, ap, _∙_}
 use mathlib.Core.Bool.{Bool, true, false}
 use mathlib.Core.Logic.{_⊎_, inl, inr}
-use native.Mathlib.Nat.{zero-div, zero-mod, add-div-right, div-eq-sub-div, div-mul-le-self, le-div-iff-mul-le}
+use native.Mathlib.Nat.{zero-div, zero-mod, add-div-right, div-mul-le-self, le-div-iff-mul-le}
 use native.Mathlib.Omega.{arith}
 use borrow.Author.Tests.{ltb-true, ltb-false}
 use lib.Dec.{ltb}
 use Rattle.prices.specs.Step.{Steps, change, up, down, rung}
-use Rattle.prices.proofs.GridLaws.{Grid, OnGrid, below-or-from, to-or-past, up-fine, up-coarse, down-fine, down-coarse}
-use Rattle.prices.proofs.GridLaws.{change-on, small-within, up-more, down-less, none-above, none-below, up-down, up-on, down-on}
+use Rattle.prices.proofs.GridLaws.{Grid, OnGrid, below-or-from, up-fine, up-coarse}
+use Rattle.prices.proofs.GridLaws.{change-on, up-more, none-above, up-down, up-on, down-on}
 
 -- n steps, one by one
 unfoldable pub after : ℕ → (ℕ → ℕ) → ℕ → ℕ

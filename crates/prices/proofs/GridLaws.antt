@@ -2,7 +2,7 @@
 -- down undo each other, also across the change, and no price of the grid lies between neighbours.
 -- Assumes nothing.
 use Prim.Native.Nat.{ℕ, _+_, _-_, _*_, _/_, _≤_, _<_, _%_}
-use mathlib.Core.Path.{_≡_, refl, sym, ap, _∙_}
+use mathlib.Core.Path.{_≡_, refl, sym, _∙_}
 use mathlib.Core.Bool.{Bool, true, false, cond}
 use mathlib.Core.Logic.{_⊎_, inl, inr}
 use native.Mathlib.Nat.{zero-mod, add-mod-right, mod-eq-sub-mod, div-add-mod', mul-le-mul-right, lt-of-mul-lt-mul-right, suc-mul}

@@ -3,11 +3,11 @@
 -- CountLaws) and specs/Step, and what says the same in plain words (crate soundness, specs/SoundBook and DecideLaws).
 -- Assumes nothing.
 use Prim.Native.Nat.{ℕ, _+_, _-_, _/_, _≤_, _<_, _%_, min}
-use mathlib.Core.Path.{_≡_, refl, sym, ap, _∙_}
+use mathlib.Core.Path.{_≡_, refl}
 use mathlib.Core.Bool.{Bool, true, false, cond, not, _&&_, _||_}
 use native.Mathlib.Nat.{mod-self, div-one}
 use native.Mathlib.Omega.{arith}
-use borrow.Author.Tests.{leb-true, leb-false, eqb-true, eqb-false, le-leb, lt-ltb, le-ltb, eq-eqb, ne-eqb, not-true, not-false}
+use borrow.Author.Tests.{leb-true, leb-false, eqb-true, eqb-false, le-leb, ne-eqb, not-true, not-false}
 use lib.Dec.{eqb, leb, ltb}
 use Rattle.prices.specs.Side.{Aggressive, Short, reaches}
 use Rattle.prices.specs.Step.{stepsOf, mpv, onGrid, legal, noneOrLegal, up, down, back, lastPrice, topPrice, change, rung, apart}

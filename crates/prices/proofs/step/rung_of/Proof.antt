@@ -1,5 +1,4 @@
 use borrow.Author.Needs.{needs}
-use native.Mathlib.Omega.{arith}
 use borrow.Author.Tests.{ne-eqb, eq-eqb}
 use Rattle.prices.proofs.StepLaws.{is-named, rung-by}
 use Rattle.prices.proofs.step.rung_of.Statement.{statement}
