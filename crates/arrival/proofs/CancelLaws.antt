@@ -32,7 +32,8 @@ module _ (test : Entry → Bool) (key : Entry → ℕ) (b : Book) (w : WellForme
   rank-inside nowhere r t e = rw e tt
   rank-inside (found i x) r t e = rw e (record { well = w; inside = omega (arith, at-inside (entries_of b) i x t.there, length-entries b w) })
 
-  pub cut-rank : (why : ℕ) (f : Found Entry) (r : Rank) → Tells test key (entries_of b) f → r ≡ rank_of f → cut_rank why (entries_of b) r ≡ cut why (entries_of b) f
+  pub cut-rank : (why : ℕ) (f : Found Entry) (r : Rank) → Tells test key (entries_of b) f → r ≡ rank_of f
+      → cut_rank why (entries_of b) r ≡ cut why (entries_of b) f
   unfolding cut
   cut-rank why nowhere r t e = rw e refl
   cut-rank why (found i x) r t e =

@@ -132,7 +132,8 @@ module _ {t : Terms} {e : Entry} {f : Facing} {trading : Bool} {b : Book} {room 
         posts = enter-finishes.posts;
       }
 
-      pub enter-done : {last : Book} {room''' : List ℕ} {n''' : ℕ} → Staged (finished t e left (stop_for t e (entries_of d)) (entries_of d)) room'' n'' last room''' n'''
+      pub enter-done : {last : Book} {room''' : List ℕ} {n''' : ℕ}
+          → Staged (finished t e left (stop_for t e (entries_of d)) (entries_of d)) room'' n'' last room''' n'''
           → Staged (entered t e (entries_of b)) room n last room''' n'''
       unfolding entered
       enter-done z = staged-then x (goes_on t e) (staged-then taken-stage ending (staged-as (sym same-ending) z))

@@ -12,7 +12,6 @@ use Rattle.prices.specs.Side.{reaches, away}
 use Rattle.kinds.specs.Kinds.{minds}
 use Rattle.prices.proofs.FrameLaws.{seen-inj}
 use Rattle.lists.specs.Places.{At, without}
-use Rattle.lists.specs.Tests.{any}
 use Rattle.lists.specs.Choose.{scan, Found, nowhere, found}
 use Rattle.lists.specs.Run.{Ran, still}
 use Rattle.lists.proofs.Bools.{clash, and_left, cond_either}

@@ -74,8 +74,8 @@ trade_at cap e t (found j y) = trade_if t j y (not (eqb t.left 0) && reaches e.s
 unfoldable pub next_trade : ℕ → Entry → Taking → Next
 next_trade cap e t = trade_at cap e t (best_contra e.sell (shown_only e) t.book)
 
--- what each case of the answer is in the rule (`next_take` is just that, by `next-take` of proofs/TradeLaws): nothing ends it, and a trade is told by its report
--- and leaves so much
+-- what each case of the answer is in the rule (`next_take` is just that, by `next-take` of proofs/TradeLaws): nothing ends it, and a trade is told by its
+-- report and leaves so much
 abbrev pub trade_as : Entry → Taking → Next → Step Taking Report
 trade_as e t Nothing = stop
 trade_as e t (With x) = go (traded e x.entry x.quantity) (record { left = t.left - x.quantity; book = hit x.at x.quantity t.book })

@@ -36,7 +36,7 @@ pub fn is_offered(sell: bool, cap: u32, price: u32) -> bool
 }
 
 // A trade to come: with the entry at a place, for so many contracts.
-#[derive(Drop)]
+#[derive(Clone, Copy)]
 pub struct Trade {
     pub at: usize,
     pub entry: Entry,
@@ -44,7 +44,7 @@ pub struct Trade {
 }
 
 // The next trade, or none.
-#[derive(Drop)]
+#[derive(Clone, Copy)]
 pub enum Next {
     Nothing,
     With(Trade),

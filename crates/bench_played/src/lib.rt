@@ -1,4 +1,6 @@
 // A run of messages played one after the other, each into what is left of one lent room: what the measurements call.
+#![tactic(auto)]
+
 ghost use Rattle.std.specs.Prelude.{◌≡◌, length, ◌+◌, ◌*◌, ◌≤◌};
 ghost use Rattle.bench_played.specs.Played.{goes_on, Turned, played, played_from};
 ghost use Rattle.packing.specs.Room.{room_size, most_reports};
@@ -23,7 +25,7 @@ fn is_next(long: usize, at: usize, size: usize, used: usize) -> bool
 }
 
 // The series after a message, and where what was written ends.
-#[derive(Drop)]
+#[derive(Clone, Copy)]
 struct Next {
     series: Series,
     used: usize,

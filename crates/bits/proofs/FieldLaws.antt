@@ -17,6 +17,8 @@ length-split (w ∷ ws) v = ap suc (length-split ws v)
 pub join-lt : (ws xs : List ℕ) → Fit ws xs → join ws xs < 2 ^ total ws
 join-lt [] [] h = omega arith
 join-lt (w ∷ ws) (x ∷ xs) h = rw pow-add (digits_lt h.0 (join-lt ws xs h.1))
+join-lt [] (x ∷ xs) h = elim h [ ]
+join-lt (w ∷ ws) [] h = elim h [ ]
 
 -- what stands above a layout's bits does not matter to its fields
 pub split-low : (ws : List ℕ) (a v : ℕ) → split ws (a * 2 ^ total ws + v) ≡ split ws v
@@ -35,6 +37,8 @@ split-join (w ∷ ws) (x ∷ xs) h =
     ap₂ {C = List ℕ} (λ (y : ℕ) (ys : List ℕ). y ∷ ys)
     (rw (high x (total ws) (join-lt ws xs h.1)) (mod-eq_of_lt h.0))
     (split-low ws x (join ws xs) ∙ split-join ws xs h.1)
+split-join [] (x ∷ xs) h = elim h [ ]
+split-join (w ∷ ws) [] h = elim h [ ]
 
 -- THE LAW, the other way
 pub join-split : (ws : List ℕ) (v : ℕ) → join ws (split ws v) ≡ v % 2 ^ total ws

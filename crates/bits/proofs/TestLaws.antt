@@ -44,6 +44,8 @@ all_fit-true (w ∷ ws) (x ∷ xs) h =
 pub fit-all_fit : (ws xs : List ℕ) → Fit ws xs → all_fit ws xs ≡ true
 fit-all_fit [] [] h = refl
 fit-all_fit (w ∷ ws) (x ∷ xs) h = ap₂ ◌&&◌ (lt-ltb x (2 ^ w) h.0) (fit-all_fit ws xs h.1)
+fit-all_fit [] (x ∷ xs) h = elim h [ ]
+fit-all_fit (w ∷ ws) [] h = elim h [ ]
 
 -- one field of each row more, as the loops go
 pub equal-step : (a b : List ℕ) (i : ℕ) → i < length a → i < length b

@@ -43,5 +43,6 @@ module _ (b : Book) (w : WellFormed b) (f : Found Entry) (i : ℕ) (r : Ranked (
   pub ranked-found : f ≡ found i (get_or b.entries i zero_entry)
   ranked-found = r.is ∙ ap (found i) (entry_at b i zero_entry ranked-place.inside)
 
-  pub ranked-chosen : (test : Entry → Bool) (key : Entry → ℕ) → Tells test key (entries_of b) f → Chosen test key (entries_of b) i (get_or b.entries i zero_entry)
+  pub ranked-chosen : (test : Entry → Bool) (key : Entry → ℕ) → Tells test key (entries_of b) f
+      → Chosen test key (entries_of b) i (get_or b.entries i zero_entry)
   ranked-chosen test key t = subst (Tells test key (entries_of b)) ranked-found t

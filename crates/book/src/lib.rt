@@ -1,12 +1,14 @@
 // The book: resting entries in rank order, oldest first. Rank is position: posting appends, a change of either price takes the entry out
 // and appends it, removal closes the gap.
+#![tactic(auto)]
+
 pub mod change;
 pub mod entries;
 pub mod find;
 pub mod look;
 
 // How an entry is priced. `Fixed` comes first, so that an unused place of the book is all zero.
-#[derive(Drop)]
+#[derive(Clone, Copy)]
 pub enum Pricing {
     // displays and works at its limit
     Fixed,
@@ -17,7 +19,7 @@ pub enum Pricing {
 }
 
 // A quote or an order.
-#[derive(Drop)]
+#[derive(Clone, Copy)]
 pub struct Entry {
     pub number: u32,
     pub party: u8,
@@ -31,28 +33,28 @@ pub struct Entry {
 }
 
 // The first `count` places hold the entries that rest; the others are unused.
-#[derive(Drop)]
+#[derive(Clone, Copy)]
 pub struct Book {
     pub entries: [Entry; 64],
     pub count: usize,
 }
 
 // Where in the book an entry stands that was looked for, oldest rank first.
-#[derive(Drop)]
+#[derive(Clone, Copy)]
 pub enum Rank {
     At(usize),
     Nowhere,
 }
 
 // The best working prices that rest: the highest buy and the lowest sell, 0 for none.
-#[derive(Drop)]
+#[derive(Clone, Copy)]
 pub struct Front {
     pub bid: u32,
     pub offer: u32,
 }
 
 // The least key that a scan has met, and where: `look::NO_KEY` stands for none.
-#[derive(Drop)]
+#[derive(Clone, Copy)]
 pub struct Least {
     pub key: u64,
     pub at: usize,

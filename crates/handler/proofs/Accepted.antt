@@ -8,7 +8,7 @@ use mathlib.Core.List.{List, [], ◌∷◌}
 use native.Mathlib.Omega.{arith}
 use lib.Dec.{eqb}
 use lib.ListN.{length, length-append}
-use borrow.Author.Tests.{leb-true, eqb-true}
+use borrow.Author.Tests.{eqb-true}
 use Rattle.prices.specs.Step.{mpv}
 use Rattle.lists.specs.Run.{Ran, still, and_then}
 use Rattle.lists.proofs.PlaceLaws.{length_none}
@@ -70,7 +70,8 @@ spared-length test (x ∷ l) = by (test x) (spared-length test l)
     by true h = omega arith
     by false h = omega arith
 
-module _ (m top phase : ℕ) (l : List Entry) (step : mpv m ≡ true) (low : top ≤ last_number) (entries : sound_entries m top l ≡ true) (size : length l ≤ 64) where
+module _ (m top phase : ℕ) (l : List Entry) (step : mpv m ≡ true) (low : top ≤ last_number) (entries : sound_entries m top l ≡ true)
+    (size : length l ≤ 64) where
   so : Sound m top l
   so = is-sound m top l step entries
 

@@ -324,7 +324,8 @@ pub examples : map outcome table ≡ map expected table
 unfolding without all any pairs scan first still leading run_for ran thing_of unpack_of by_kind keen meek reaches nearer mpv on_grid legal none_or_legal back
     last_price up down rung apart row_of minded up_to short_of aim_display aim_working figures24 limited24 marketable resting_prices at_rest stirs_at
     slides eased_to eases entries_of book_of hit hit_both cost priority best_contra nearest quote_in lowest priced_as sound_entry sound_pair sound_entries
-    sound_book next_ease easings next_stir stirrings eased stirred settled cut next_take chances taken took stop_for rejected_by entered stops_at_once protection_for
+    sound_book next_ease easings next_stir stirrings eased stirred settled cut next_take chances taken took stop_for rejected_by entered stops_at_once
+    protection_for
     rejection arrived sound_terms sound_phase sound_series refusal_of own_part terms_after blocks blocked_after done
 examples = refl
 

@@ -102,7 +102,8 @@ pub accepts : (s : Series) (e : Event) → sound_series s ≡ true → refusal_o
 accepts s e h k = record { sound = h; kind = (ask-kind e).0; passes = k }
 
 -- a message that is answered with 0 is accepted, and that is the answer
-module _ (s : Series) (message room : List ℕ) (e : Event) (read : unpack_of messages message ≡ some e) (zero : (handled s message room).answer.refusal ≡ 0) where
+module _ (s : Series) (message room : List ℕ) (e : Event) (read : unpack_of messages message ≡ some e)
+    (zero : (handled s message room).answer.refusal ≡ 0) where
   pub accepted-as : Accepted s (ask_of e)
   accepted-as =
       let w : Accepting s message room = accepting s message room zero in

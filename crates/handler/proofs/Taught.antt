@@ -37,7 +37,8 @@ use Rattle.handler.proofs.TaughtLaws.{takes_same, takes-both, takes-opposite, le
 
 -- ---- THE THEOREMS, of what is answered ----
 
-module _ (s : Series) (message room : List ℕ) (e : Event) (read : unpack_of messages message ≡ some e) (zero : (handled s message room).answer.refusal ≡ 0) where
+module _ (s : Series) (message room : List ℕ) (e : Event) (read : unpack_of messages message ≡ some e)
+    (zero : (handled s message room).answer.refusal ≡ 0) where
   -- A DISPLAY NEVER MOVES BACK WHILE ITS QUOTE RESTS: in the series left, the display of an entry that rested before is as aggressive as it was, or more
   pub display-never-back : (i j : ℕ) (y x : Entry) → At (entries_of s.book) i y → At (entries_of (handled s message room).answer.series.book) j x
       → y.number ≡ x.number → reaches y.sell (display x) (display y) ≡ true

@@ -8,10 +8,8 @@ use mathlib.Core.List.{◌∷◌, ◌++◌, map}
 use mathlib.Core.Logic.{◌⊎◌}
 use mathlib.Core.Option.{some}
 use lib.ListN.{length}
-use Rattle.kinds.specs.Kinds.{quotes}
 use Rattle.lists.specs.Places.{At}
 use Rattle.lists.specs.Tests.{All}
-use Rattle.lists.specs.Run.{still}
 use Rattle.packing.specs.declared.report.Report.{Report}
 use Rattle.packing.specs.declared.report.Report.TheVariants.{Noted, Rejected, Traded, Rested, Repriced, Cancelled}
 use Rattle.book.specs.declared.Entry.{Entry}
@@ -21,7 +19,7 @@ use Rattle.book.specs.Look.{quote_in}
 use Rattle.telling.specs.Tell.{rejected, cancelled}
 use Rattle.telling.proofs.Staying.{Numbered, TradeNames}
 use Rattle.settling_theory.proofs.Stays.{TradesOrMoves}
-use Rattle.arrival.specs.Arrive.{replaced, none_traded, trades_of}
+use Rattle.arrival.specs.Arrive.{none_traded, trades_of}
 use Rattle.arrival.proofs.CutLaws.{OtherThan}
 use Rattle.arrival.proofs.Leaves.{cancels}
 use Rattle.series.specs.declared.Series.{Series}

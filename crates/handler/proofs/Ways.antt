@@ -115,7 +115,8 @@ module _ (s : Series) (message room : List ℕ) where
   unfolding handled handled_as
   accepting h = by (ltb (length room) room_size) refl (sound_series s) refl (unpack_of messages message) refl h
     where
-      judge : room_size ≤ length room → sound_series s ≡ true → (e : Event) → unpack_of messages message ≡ some e → (b : Bool) → eqb (refusal_of s (ask_of e)) 0 ≡ b
+      judge : room_size ≤ length room → sound_series s ≡ true → (e : Event) → unpack_of messages message ≡ some e → (b : Bool)
+          → eqb (refusal_of s (ask_of e)) 0 ≡ b
           → (cond b (accepted s (ask_of e) room) (refused (refusal_of s (ask_of e)) s room)).answer.refusal ≡ 0 → Accepting s message room
       judge n g e r true q k = record { space = n; sound = g; event = e; read = r; passes = eqb-true (refusal_of s (ask_of e)) 0 q }
       judge n g e r false q k = absurd (eqb-false (refusal_of s (ask_of e)) 0 q k)

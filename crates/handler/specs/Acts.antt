@@ -1,7 +1,7 @@
 -- What the functions of the handler ask of their callers, once the tests are passed.
 -- No rule of document 01 stands here, only words for contracts.
 -- Assumes nothing.
-use Rattle.std.specs.Prelude.{ℕ, ◌-◌, ◌≤◌, ◌≡◌, Bool, true, false, cond, ◌&&◌, List, eqb, length, set}
+use Rattle.std.specs.Prelude.{ℕ, ◌-◌, ◌≤◌, ◌≡◌, Bool, true, false, cond, ◌&&◌, List, length, set}
 use Rattle.prices.specs.Side.{away, nearer}
 use Rattle.book.specs.declared.Entry.{Entry}
 use Rattle.book.specs.declared.Book.{Book}

@@ -110,6 +110,7 @@ pub fn facing_of(check: Check, t: Terms, sell: bool) -> Facing
 }
 
 // The message's own part.
+#[inline(never)]
 fn act(s: Series, check: Check, a: Ask, room: &mut [u8], n: &mut usize) -> Book
     requires acts { Acts s check a }
     requires roomy { Roomy room.old n.old (own_part s.terms a (entries_of s.book)).records }
@@ -137,7 +138,9 @@ fn act(s: Series, check: Check, a: Ask, room: &mut [u8], n: &mut usize) -> Book
     b
 }
 
-// Settling, where there is anything to settle: mostly there is not.
+// Settling, where there is anything to settle: mostly there is not. Not inlined, as `act`, so that its stack and theirs are not needed at once:
+// c/waxglimmer.h says with how much a thread can call the handler.
+#[inline(never)]
 fn settle_open(b: Book, market: Market, room: &mut [u8], n: &mut usize) -> Book
     requires { Settleable market b room.old n.old }
     ensures { Staged (settled market (entries_of b)) room.old n.old result room.new n.new }

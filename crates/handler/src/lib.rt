@@ -1,4 +1,6 @@
 // The handler: refusals in their order, then what the message does, then settling.
+#![tactic(auto)]
+
 use series::Series;
 
 pub mod asking;
@@ -6,7 +8,7 @@ pub mod handle;
 pub mod refuse;
 
 // What an event asks, in one shape: document 01's fields, 0 where the kind does not name them.
-#[derive(Drop)]
+#[derive(Clone, Copy)]
 pub struct Ask {
     pub kind: u32,
     pub party: u32,
@@ -17,7 +19,7 @@ pub struct Ask {
     pub entry: u32,
 }
 
-#[derive(Drop)]
+#[derive(Clone, Copy)]
 pub struct Answer {
     pub refusal: u32,
     pub count: usize,

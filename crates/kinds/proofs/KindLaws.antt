@@ -5,7 +5,7 @@ use mathlib.Core.Path.{◌≡◌, refl, subst, sym, ap, ◌∙◌}
 use mathlib.Core.Bool.{Bool, true, false, cond, not, ◌&&◌, ◌||◌, beq}
 use mathlib.Core.List.{List, [], ◌∷◌}
 use lib.Dec.{eqb, leb}
-use borrow.Author.Tests.{eqb-true, leb-true, eq-eqb, not-true}
+use borrow.Author.Tests.{eqb-true, leb-true, not-true}
 use Rattle.lists.proofs.Bools.{and_left, and_right, beq-true, eq-beq}
 use Rattle.kinds.specs.Kinds.{Kind, rows, unknown, row_in, row_of, enters, quotes, sliding, minds, dark, light, carries, makers, asked}
 

@@ -1,4 +1,6 @@
 // The kinds of messages and entries, and what is so of each: the one table that every rule asks (specs/Kinds).
+#![tactic(auto)]
+
 ghost use Rattle.std.specs.Prelude.{◌≡◌};
 ghost use Rattle.kinds.specs.Kinds.{enters, quotes, sliding, minds, dark, light, carries, makers, asked};
 

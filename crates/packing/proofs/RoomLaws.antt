@@ -76,7 +76,8 @@ read-packed [] rest h = refl
 read-packed (r ∷ rs) rest h =
     let b : List ℕ = bytes_of reports (code_of r) in
     let a : (b ++ packed_all rs) ++ rest ≡ b ++ (packed_all rs ++ rest) = append_assoc b (packed_all rs) rest in
-    let first : take report_size ((b ++ packed_all rs) ++ rest) ≡ b = ap (take report_size) a ∙ take_at b (packed_all rs ++ rest) report_size (length-report r) in
+    let first : take report_size ((b ++ packed_all rs) ++ rest) ≡ b = ap (take report_size) a
+    ∙ take_at b (packed_all rs ++ rest) report_size (length-report r) in
     let others : drop report_size ((b ++ packed_all rs) ++ rest) ≡ packed_all rs ++ rest =
     ap (drop report_size) a ∙ drop_at b (packed_all rs ++ rest) report_size (length-report r) in
     ap₂ {C = List (Option Report)} (λ (u : Option Report) (us : List (Option Report)). u ∷ us)

@@ -4,7 +4,7 @@ ghost use Rattle.packing.specs.Codec.{look_up, thing_of, unpack_of, pack_of, ans
 ghost use Rattle.packing.specs.Message.{messages, entering_code, code_of, by_kind, claimed_by, message_at, unpacked, packed, said_by};
 
 // What a quote or an order says.
-#[derive(Drop)]
+#[derive(Clone, Copy)]
 pub struct Entering {
     pub party: u32,
     pub sell: bool,
@@ -14,7 +14,7 @@ pub struct Entering {
 
 // What a message says: one case for each kind, in the order of the kinds' numbers 1 to 12. The numbers are as the message holds
 // them: whether they are in range is not asked here.
-#[derive(Drop)]
+#[derive(Clone, Copy)]
 pub enum Event {
     Plain(Entering),
     Mmlo(Entering),
@@ -30,13 +30,13 @@ pub enum Event {
     Enable { party: u32 },
 }
 
-#[derive(Drop)]
+#[derive(Clone, Copy)]
 pub enum Unpacked {
     Message(Event),
     Nothing,
 }
 
-#[derive(Drop)]
+#[derive(Clone, Copy)]
 pub struct Packed {
     pub ok: bool,
     pub bytes: [u8; SIZE],

@@ -4,7 +4,7 @@ ghost use Rattle.packing.specs.Codec.{look_up, thing_of, unpack_of, pack_of, ans
 ghost use Rattle.packing.specs.Report.{reports, fields_of, code_of, kinds_of, claimed_by, unpacked, packed, said_by, nine_fields};
 
 // What happened to an entry: one case for each kind, in the order of the kinds' numbers 1 to 6.
-#[derive(Drop)]
+#[derive(Clone, Copy)]
 pub enum Report {
     Noted,
     Rejected {
@@ -49,13 +49,13 @@ pub enum Report {
     },
 }
 
-#[derive(Drop)]
+#[derive(Clone, Copy)]
 pub enum Unpacked {
     Told(Report),
     Nothing,
 }
 
-#[derive(Drop)]
+#[derive(Clone, Copy)]
 pub struct Packed {
     pub ok: bool,
     pub bytes: [u8; SIZE],

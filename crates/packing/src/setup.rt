@@ -3,7 +3,7 @@ ghost use Rattle.std.specs.Prelude.{◌≡◌};
 ghost use Rattle.packing.specs.Codec.{thing_of, unpack_of, pack_of, answer_of};
 ghost use Rattle.packing.specs.Setup.{setups, code_of, legal_setup, unpacked, packed, said_by};
 
-#[derive(Drop)]
+#[derive(Clone, Copy)]
 pub struct Setup {
     pub put: bool,
     pub exempt: bool,
@@ -12,13 +12,13 @@ pub struct Setup {
     pub strike: u32,
 }
 
-#[derive(Drop)]
+#[derive(Clone, Copy)]
 pub enum Unpacked {
     Series(Setup),
     Nothing,
 }
 
-#[derive(Drop)]
+#[derive(Clone, Copy)]
 pub struct Packed {
     pub ok: bool,
     pub bytes: [u8; SIZE],

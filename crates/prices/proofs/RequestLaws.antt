@@ -2,8 +2,8 @@
 -- Assumes nothing.
 use Prim.Native.Nat.{ℕ}
 use mathlib.Core.Path.{◌≡◌}
-use mathlib.Core.Bool.{true, ◌&&◌, ◌||◌}
-use lib.Dec.{eqb, leb}
+use mathlib.Core.Bool.{true, ◌&&◌}
+use lib.Dec.{leb}
 use Rattle.prices.specs.Step.{mpv, legal, none_or_legal}
 use Rattle.prices.specs.Aims.{Bounds}
 use Rattle.kinds.specs.Kinds.{asked}

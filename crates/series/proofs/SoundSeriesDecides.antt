@@ -1,5 +1,5 @@
--- SOUND-SERIES-DECIDES: the test `sound_series`, whose answer `check_series` gives, comes out true for the series that are sound in document 01's words, and for
--- no others, however damaged. The words are in specs/SoundSeries.
+-- SOUND-SERIES-DECIDES: the test `sound_series`, whose answer `check_series` gives, comes out true for the series that are sound in document 01's words,
+-- and for no others, however damaged. The words are in specs/SoundSeries.
 -- Assumes nothing.
 use mathlib.Core.Path.{◌≡◌}
 use mathlib.Core.Bool.{true, ◌&&◌}

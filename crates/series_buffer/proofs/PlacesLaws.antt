@@ -108,7 +108,8 @@ part-read s i h k =
 pub part-written : (out : List ℕ) (i : ℕ) → length out ≡ places_size → i < 64
     → length (take (entry_size * i + entry_size - entry_size * i) (drop (entry_size * i) out)) ≡ entry_size
 part-written out i h k =
-    length-take-le (entry_size * i + entry_size - entry_size * i) (drop (entry_size * i) out) (omega (arith, length-drop (entry_size * i) out, h, k)) ∙ omega arith
+    length-take-le (entry_size * i + entry_size - entry_size * i) (drop (entry_size * i) out) (omega (arith, length-drop (entry_size * i) out, h, k))
+    ∙ omega arith
 
 pub length-entry : (e : Entry) → length (bytes_of entries (entries.code e)) ≡ entry_size
 length-entry e = length-bytes entries lawful (entries.code e)

@@ -37,12 +37,14 @@ entries-said (some es) r e = sym (ap (λ (x : All). only_if x.ok (some x.entries
 module _ (s : List ℕ) where
   pub other_length : (length s ≡ state_size → ⊥) → unpack_series s ≡ none
   unfolding unpack_series
-  other_length h = ap (λ (b : Bool). only_if b (made (unpack_of headers (take header_size s)) (entries_in 64 (drop header_size s)))) (ne_eqb (length s) state_size h)
+  other_length h =
+      ap (λ (b : Bool). only_if b (made (unpack_of headers (take header_size s)) (entries_in 64 (drop header_size s)))) (ne_eqb (length s) state_size h)
 
   module _ (long : length s ≡ state_size) where
     in_parts : unpack_series s ≡ made (unpack_of headers (take header_size s)) (entries_in 64 (drop header_size s))
     unfolding unpack_series
-    in_parts = ap (λ (b : Bool). only_if b (made (unpack_of headers (take header_size s)) (entries_in 64 (drop header_size s)))) (eq-eqb (length s) state_size long)
+    in_parts =
+        ap (λ (b : Bool). only_if b (made (unpack_of headers (take header_size s)) (entries_in 64 (drop header_size s)))) (eq-eqb (length s) state_size long)
 
     module _ (a : Bool) (h : Header) (header : unpack_of headers (take header_size s) ≡ only_if a (some h)) where
       pub no_header : a ≡ false → unpack_series s ≡ none
@@ -82,7 +84,8 @@ module _ (out : List ℕ) (s : Series) where
   unfolding is_stored
   kept-unfit h = stored-as false (ap (λ (b : Bool). eqb (length out) state_size && b) h ∙ and-false (eqb (length out) state_size))
 
-  pub put_in : length out ≡ state_size → packs_series s ≡ true → (after : List ℕ) → after ≡ series_bytes s → (true ≡ is_stored out s) × (after ≡ buffer_after out s)
+  pub put_in : length out ≡ state_size → packs_series s ≡ true → (after : List ℕ) → after ≡ series_bytes s
+      → (true ≡ is_stored out s) × (after ≡ buffer_after out s)
   unfolding is_stored
   put_in h k after q =
       let t = stored-as true (ap₂ ◌&&◌ (eq-eqb (length out) state_size h) k) in

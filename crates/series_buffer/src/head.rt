@@ -9,7 +9,7 @@ use crate::Header;
 use terms::Terms;
 
 // Whether there is a header, and which: zeros, if there is none.
-#[derive(Drop)]
+#[derive(Clone, Copy)]
 pub struct Found {
     pub ok: bool,
     pub header: Header,

@@ -26,6 +26,8 @@
 //     21      1  kind, 1 to 6 as in messages
 //     22      1  side: 0 buy, 1 sell
 //     23      1  pricing: 0 fixed, 1 dark, 2 sliding
+#![tactic(auto)]
+
 use series::Series;
 use terms::Terms;
 
@@ -34,7 +36,7 @@ pub mod places;
 pub mod whole;
 
 // What stands in the first 28 bytes.
-#[derive(Drop)]
+#[derive(Clone, Copy)]
 pub struct Header {
     pub terms: Terms,
     pub count: u32,
@@ -43,7 +45,7 @@ pub struct Header {
 }
 
 // A series, or none: an enum cannot hold a series, since that holds an array.
-#[derive(Drop)]
+#[derive(Clone, Copy)]
 pub struct Unpacked {
     pub ok: bool,
     pub series: Series,

@@ -10,14 +10,14 @@ use book::entries::zero_entry;
 use book::{Entry, Pricing};
 
 // What a place holds: an entry, or bytes that are no entry's.
-#[derive(Drop)]
+#[derive(Clone, Copy)]
 pub enum Place {
     Nothing,
     Holding(Entry),
 }
 
 // Whether each of the 64 places holds one, and which: zeros, if one of them does not.
-#[derive(Drop)]
+#[derive(Clone, Copy)]
 pub struct All {
     pub ok: bool,
     pub entries: [Entry; 64],

@@ -21,7 +21,8 @@ pub record SetUp : Type 0 where
 -- 1,564 bytes and so cannot hold a series
 abbrev pub set_up : List ℕ → Option Setup → SetUp
 set_up state none = record { refusal = nothing; state = state }
-set_up state (some s) = cond (eqb (length state) state_size) (record { refusal = 0; state = series_bytes (new_series s) }) (record { refusal = 11; state = state })
+set_up state (some s) =
+    cond (eqb (length state) state_size) (record { refusal = 0; state = series_bytes (new_series s) }) (record { refusal = 11; state = state })
 
 pub record Served : Type 0 where
   pub refusal : ℕ

@@ -45,7 +45,8 @@ module _ (test : Entry → Bool) (b : Book) (w : WellFormed b) where
 -- ---- easing ----
 
 module _ (k : Market) (b : Book) (w : WellFormed b) where
-  pub ease-at-is : (i : ℕ) → rank.At i ≡ rank_of (lowest (easing k) (entries_of b)) → next_ease k (entries_of b) ≡ ease_at k (entries_of b) (found i (entry_in b i))
+  pub ease-at-is : (i : ℕ) → rank.At i ≡ rank_of (lowest (easing k) (entries_of b))
+      → next_ease k (entries_of b) ≡ ease_at k (entries_of b) (found i (entry_in b i))
   unfolding next_ease
   ease-at-is i e = ap (ease_at k (entries_of b)) (lowest-at (easing k) b w i e).is
 

@@ -54,7 +54,8 @@ stirring-falls k = record { kept = kept; less = λ l r t u e. (stir-falls k (sou
         record { sound = keep-sound u.sound ea.sound; uneased = easy-uneased (sound-for u.sound).0 ea }
 
 -- where an entry stirs, the step goes on
-pub stir-goes : (k : Market) (b : Book) (i : ℕ) → Lowest (stirring k (entries_of b)) b i → {x : Step (List Entry) Report} → next_stir k (entries_of b) ≡ x → Goes x
+pub stir-goes : (k : Market) (b : Book) (i : ℕ) → Lowest (stirring k (entries_of b)) b i → {x : Step (List Entry) Report} → next_stir k (entries_of b) ≡ x
+    → Goes x
 stir-goes k b i w {x} e = at x e
   where
     at : (y : Step (List Entry) Report) → next_stir k (entries_of b) ≡ y → Goes y

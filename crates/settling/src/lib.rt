@@ -1,4 +1,6 @@
 // Settling: easing, then trades and moves until nothing stirs, with one report for each step.
+#![tactic(auto)]
+
 pub mod ease;
 pub mod stir;
 pub mod watch;

@@ -2,7 +2,7 @@
 -- Assumes nothing.
 use Prim.Native.Nat.{ℕ, ◌<◌}
 use mathlib.Core.Path.{◌≡◌, refl, sym, ap, ◌∙◌}
-use mathlib.Core.Bool.{Bool, true, false, cond, not, ◌&&◌}
+use mathlib.Core.Bool.{Bool, true, false, cond, not}
 use mathlib.Core.List.{List}
 use native.Mathlib.Omega.{arith}
 use lib.Dec.{eqb}
@@ -19,7 +19,6 @@ use Rattle.prices.proofs.RestLaws.{Slides, Eased}
 use Rattle.prices.proofs.EaseLaws.{Dropped, eased, uneased-eased}
 use Rattle.lists.specs.Places.{At, without, requeue}
 use Rattle.lists.specs.Tests.{All}
-use Rattle.lists.specs.Run.{go}
 use Rattle.lists.proofs.Bools.{clash, and_left, and_right}
 use Rattle.lists.proofs.PlaceLaws.{at-inside, length-snoc, length_without}
 use Rattle.lists.proofs.TestLaws.{all-zip, all_of, count-without, count-snoc}

@@ -1,9 +1,7 @@
 -- Every report of settling packs: the numbers of sound entries fit their fields.
 -- Assumes nothing.
 use Prim.Native.Nat.{ℕ, ◌≤◌, min}
-use mathlib.Core.Path.{◌≡◌}
-use mathlib.Core.Bool.{true}
-use mathlib.Core.List.{List, [], ◌∷◌, ◌++◌}
+use mathlib.Core.List.{List}
 use native.Mathlib.Omega.{arith}
 use lib.ListN.{length}
 use Rattle.prices.specs.declared.Prices.{Prices}
@@ -34,7 +32,8 @@ module _ {m top : ℕ} (few : top ≤ last_number) where
 
   pub ease-packs : {k : Market} {l t : List Entry} {r : Report} → Sound m top t → EaseStep k l r t → Packs r
   ease-packs {k} {l} so (eased-at {i = i} {e = e} c) =
-      repriced-fits e (eased_prices k e) (here-facts so (length (without i l)) (priced (eased_prices k e) e) (at_last (without i l) (priced (eased_prices k e) e)))
+      repriced-fits e (eased_prices k e)
+      (here-facts so (length (without i l)) (priced (eased_prices k e) e) (at_last (without i l) (priced (eased_prices k e) e)))
 
   pub stir-packs : {k : Market} {l t : List Entry} {r : Report} → Sound m top l → Sound m top t → StirStep k l r t → Packs r
   stir-packs so so' (traded-at {i = i} {j = j} {e = e} {y = y} c h b) = traded-fits e y (here-facts so i e c.there) (here-facts so j y b.chosen.there)

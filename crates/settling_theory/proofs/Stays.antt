@@ -25,14 +25,14 @@ ease-stays : {k : Market} {l t : List Entry} {r : Report} (n : ℕ) → EaseStep
 ease-stays {l = l} n (eased-at {i = i} {e = e} c) h = inl (requeue-stays i l e _ n c.there refl h)
 
 stir-stays : {k : Market} {l t : List Entry} {r : Report} (n : ℕ) → StirStep k l r t → Numbered l n → Numbered t n ⊎ TradeNames n r
-stir-stays {l = l} n (traded-at {i = i} {j = j} {e = e} {y = y} c m b) h = go (eqb e.number n) refl (eqb y.number n) refl
+stir-stays {k = k} {l = l} n (traded-at {i = i} {j = j} {e = e} {y = y} c m b) h = go (eqb e.number n) refl (eqb y.number n) refl
   where
     go : (p : Bool) → eqb e.number n ≡ p → (p' : Bool) → eqb y.number n ≡ p'
         → Numbered (hit_both i j (min e.quantity y.quantity) l) n ⊎ ((e.number ≡ n) ⊎ (y.number ≡ n))
     go true q p' q' = inr (inl (eqb-true e.number n q))
     go false q true q' = inr (inr (eqb-true y.number n q'))
     go false q false q' =
-        inl (trade-stays i j (min e.quantity y.quantity) l e y n c.there b.chosen.there (trade-apart c b)
+        inl (trade-stays i j (min e.quantity y.quantity) l e y n c.there b.chosen.there (trade-apart k c b)
         (eqb-false e.number n q) (eqb-false y.number n q') h)
 stir-stays {l = l} n (moved_at {i = i} {e = e} c m) h = inl (requeue-stays i l e _ n c.there refl h)
 

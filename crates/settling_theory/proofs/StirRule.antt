@@ -60,14 +60,14 @@ triangle-falls m n h = omega (arith, triangle-mono (suc m) n h)
 -- ---- a trade ----
 
 -- the two parties stand on two sides, so at two places
-pub trade-apart : {k : Market} {l : List Entry} {i j : ℕ} {e y : Entry} → First (stirring k l) l i e → BestContra e.sell false l j y → i ≡ j → ⊥
-trade-apart {l = l} {j = j} {e = e} {y = y} c b h =
+pub trade-apart : (k : Market) {l : List Entry} {i j : ℕ} {e y : Entry} → First (stirring k l) l i e → BestContra e.sell false l j y → i ≡ j → ⊥
+trade-apart k {l = l} {j = j} {e = e} {y = y} c b h =
     let same : e ≡ y = at_same l j e y (subst (λ (n : ℕ). At l n e) h c.there) b.chosen.there in
     never-facing e.sell (subst (λ (z : Entry). against e.sell z ≡ true) (sym same) (and_left (against e.sell y) true b.chosen.passes))
 
-trade-less : {k : Market} {l : List Entry} {i j : ℕ} {e y : Entry} → First (stirring k l) l i e → BestContra e.sell false l j y
+trade-less : (k : Market) {l : List Entry} {i j : ℕ} {e y : Entry} → First (stirring k l) l i e → BestContra e.sell false l j y
     → length (hit_both i j (min e.quantity y.quantity) l) < length l
-trade-less {l = l} {i = i} {j = j} {e = e} {y = y} c b = trade-shorter i j l e y c.there b.chosen.there (trade-apart c b)
+trade-less k {l = l} {i = i} {j = j} {e = e} {y = y} c b = trade-shorter i j l e y c.there b.chosen.there (trade-apart k c b)
 
 -- ---- a quote that stirs ----
 
@@ -143,7 +143,7 @@ module _ (k : Market) (mk : MarketFacts k) {top : ℕ} where
   unfolding stirrings
   stir-less {l = l} ea (traded-at {i = i} {j = j} {e = e} {y = y} c m b) =
       let l' : List Entry = hit_both i j (min e.quantity y.quantity) l in
-      omega (arith, count-le (stirring k l') l', triangle-falls (length l') (length l) (trade-less c b))
+      omega (arith, count-le (stirring k l') l', triangle-falls (length l') (length l) (trade-less k c b))
   stir-less {l = l} ea (moved_at {i = i} {e = e} c m) =
       let e' : Entry = priced (rest_prices k l e) e in
       let l' : List Entry = requeue i (priced (rest_prices k l e) e) l in
@@ -162,5 +162,5 @@ module _ (k : Market) (mk : MarketFacts k) {top : ℕ} where
 
 -- no entry comes
 pub stir-length : {k : Market} {l t : List Entry} {r : Report} → StirStep k l r t → length t ≤ length l
-stir-length {k} {l} (traded-at c m b) = omega (arith, trade-less c b)
+stir-length {k} {l} (traded-at c m b) = omega (arith, trade-less k c b)
 stir-length {k} {l} (moved_at {i = i} {e = e} c m) = omega (arith, length-requeue i l e (priced (rest_prices k l e) e) c.there)

@@ -10,7 +10,7 @@ use Rattle.book.specs.declared.Entry.{Entry}
 use Rattle.book.specs.declared.Book.{Book}
 use Rattle.book.specs.Entries.{quote, quote_of, display}
 use Rattle.book.specs.Shape.{entries_of, WellFormed}
-use Rattle.book.specs.Look.{contra, national, working}
+use Rattle.book.specs.Look.{contra, national}
 use Rattle.soundness_theory.specs.Sound.{sound_book, sound_entries}
 use Rattle.soundness.specs.declared.Check.{Check}
 use Rattle.soundness.specs.declared.Best.{Best}

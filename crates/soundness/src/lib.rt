@@ -1,5 +1,7 @@
 // Whether a book that is handed in is sound: one pass over the entries that rest, one over the unused places. What the pass has seen on
 // its way is answered with the verdict, so that no later stage has to look for it again; specs/Summary says what of it is used.
+#![tactic(auto)]
+
 mod clauses;
 pub mod figures;
 mod pass;
@@ -11,7 +13,7 @@ use prices::step::is_mpv;
 
 // The verdict; and if it is `ok`, the best working price of each side and the best price shown, 0 for none, whether any quote rests, and
 // which makers have one on which side.
-#[derive(Drop)]
+#[derive(Clone, Copy)]
 pub struct Check {
     pub ok: bool,
     pub bid: u32,
@@ -24,7 +26,7 @@ pub struct Check {
 
 // The best prices of the entries read so far, the highest entry number, and whether a quote is among them. An offer of
 // `NO_OFFER`, which is above all prices, is none.
-#[derive(Drop)]
+#[derive(Clone, Copy)]
 pub struct Best {
     pub top: u32,
     pub bid: u32,

@@ -79,7 +79,8 @@ module _ {x : Ran (List Entry) Report} {room : List ℕ} {n : ℕ} {after : Book
   staged-list = ap entries_of s.book ∙ entries-of-book x.final
 
   -- behind it comes another, which starts from what it left
-  pub staged-then : (f : List Entry → Ran (List Entry) Report) {last : Book} {room'' : List ℕ} {n'' : ℕ} → Staged (f (entries_of after)) room' n' last room'' n''
+  pub staged-then : (f : List Entry → Ran (List Entry) Report) {last : Book} {room'' : List ℕ} {n'' : ℕ}
+      → Staged (f (entries_of after)) room' n' last room'' n''
       → Staged (and_then x f) room n last room'' n''
   staged-then f {last} {room''} {n''} t = record {
     book = subst (λ (l : List Entry). last ≡ book_of (f l).final) staged-list t.book;

@@ -1,11 +1,13 @@
 // The numbers of a series, and what the price rules read off them.
+#![tactic(auto)]
+
 ghost use Rattle.std.specs.Prelude.{◌≡◌};
 ghost use Rattle.terms.specs.Terms.{market_of, guard_of};
 
 use prices::{Guard, Market};
 
 // The numbers of a series.
-#[derive(Drop)]
+#[derive(Clone, Copy)]
 pub struct Terms {
     pub put: bool,
     pub exempt: bool,

@@ -58,8 +58,8 @@ left_tests s a =
 abbrev pub given : ℕ → Figures → Why
 given rule f = Given (record { rule = rule; first = f.first; second = f.second })
 
--- WHY A REPORT OF A MESSAGE SAYS WHAT IT SAYS. "Reasons 27 to 31 compare no prices and give two zeros": no test has their numbers (`figures_of`). "A report that
--- is neither rejected nor cancelled gets 'no reason to give'."
+-- WHY A REPORT OF A MESSAGE SAYS WHAT IT SAYS. "Reasons 27 to 31 compare no prices and give two zeros": no test has their numbers (`figures_of`). "A
+-- report that is neither rejected nor cancelled gets 'no reason to give'."
 abbrev pub reason_for : Series → Ask → Report → Why
 reason_for s a Noted = NoReason
 reason_for s a (Rejected why sell party number limit quantity) = given why (figures_of why (found_tests s a))

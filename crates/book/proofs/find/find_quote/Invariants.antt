@@ -1,0 +1,10 @@
+use Rattle.book.specs.Entries.{quote_of}
+use Rattle.lists.proofs.LoopLaws.{Searching}
+use Prim.Native.Nat.{◌-◌}
+use Rattle.book.proofs.find.find_quote.Given as goal
+
+abbrev pub invariant-loop-i : goal.invariant-loop-i
+invariant-loop-i l = Searching (quote_of l.party l.sell) l.b.entries l.n l.i
+
+abbrev pub decreases-loop-i : goal.decreases-loop-i
+decreases-loop-i l = l.n - l.i

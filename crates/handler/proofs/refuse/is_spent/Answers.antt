@@ -1,0 +1,4 @@
+use Rattle.handler.proofs.refuse.is_spent.Goals as goal
+
+pub returns : goal.returns
+returns c = rw c.is_entering.ensures

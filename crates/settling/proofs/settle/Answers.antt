@@ -1,0 +1,11 @@
+use Rattle.settling.proofs.Whole.{settle-eases, settle-stirs, settle-ends}
+use Rattle.settling.proofs.settle.Goals as goal
+
+pub ease-c-requires : goal.ease-c-requires
+ease-c-requires c = settle-eases c.requires
+
+pub stir-requires : goal.stir-requires
+stir-requires c = settle-stirs c.requires c.ease-c.ensures
+
+pub returns : goal.returns
+returns c = settle-ends c.requires c.ease-c.ensures c.stir.ensures

@@ -1,0 +1,14 @@
+use Rattle.book.proofs.NumberLaws.{soonest-start, soonest-turn, soonest-end}
+use Rattle.settling.proofs.watch.first_stirring.Goals as goal
+
+pub loop-i-init : goal.loop-i-init
+loop-i-init c = soonest-start c.nobody-held.ensures
+
+pub is_entry_stirring-requires : goal.is_entry_stirring-requires
+is_entry_stirring-requires c = c.requires.judged
+
+pub loop-i-preserved : goal.loop-i-preserved
+loop-i-preserved c = soonest-turn c.loop-i.invariant c.requires.well c.loop-i-test.true c.is_entry_stirring.ensures c.sooner-held.ensures
+
+pub returns : goal.returns
+returns c = soonest-end c.loop-i.invariant c.loop-i-test.false c.rank_of.ensures

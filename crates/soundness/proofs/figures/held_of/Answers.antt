@@ -1,0 +1,11 @@
+use borrow.Author.Tests.{eq-eqb, ne_eqb}
+use Rattle.soundness.specs.Summary.{offer_key}
+use Rattle.soundness.proofs.figures.held_of.Goals as goal
+
+pub returns-then-p-eq0 : goal.returns-then-p-eq0
+unfolding offer_key
+returns-then-p-eq0 c = rw (eq-eqb _ _ c.if-p-eq0.true)
+
+pub returns-else-p-eq0 : goal.returns-else-p-eq0
+unfolding offer_key
+returns-else-p-eq0 c = rw (ne_eqb _ _ c.if-p-eq0.false)
