@@ -3,7 +3,7 @@
 use Prim.Native.Nat.{ℕ, ◌+◌, ◌*◌, ◌^◌, ◌≤◌, ◌<◌}
 use mathlib.Core.List.{List, [], ◌++◌}
 use mathlib.Core.Bool.{true, false}
-use mathlib.Core.Path.{◌≡◌, refl, sym, ap, ◌∙◌}
+use mathlib.Core.Path.{◌≡◌, sym, ap, ◌∙◌}
 use native.Mathlib.Omega.{arith}
 use borrow.Author.Tests.{leb-true}
 use lib.ListN.{length, take, drop, get_or}
@@ -65,7 +65,8 @@ module _ {b : Book} {n : ℕ} (r : Resting b n) (out : List ℕ) (at number : �
   unfolding roomy
   printed-room h = leb-true (at + longest_line * n) (length out) h
 
-  pub is-printed : {after : List ℕ} {end : ℕ} → roomy (length out) at n ≡ true → TextPut out at (board_text number (entries_of b)) after end → end ≤ length after
+  pub is-printed : {after : List ℕ} {end : ℕ} → roomy (length out) at n ≡ true → TextPut out at (board_text number (entries_of b)) after end
+      → end ≤ length after
       → (end ≡ (board_printed out at number b).0) × ((after ≡ (board_printed out at number b).1) × (IsPrefixLen end after × (length (entries_of b) ≤ 64)))
   is-printed {after} {end} h put within =
       let p = printed-there (length (entries_of b)) (rw (rests-count r) h) put in

@@ -1,4 +1,6 @@
 // The book as lines of decimal numbers, put into a lent buffer: one for each entry that rests.
+#![tactic(auto)]
+
 ghost use Rattle.std.specs.Prelude.{◌+◌, ◌*◌, ◌≤◌, ◌<◌, ◌≡◌, cond, length, take, get_or};
 ghost use Rattle.io.specs.Counts.{IsPrefixLen};
 ghost use Rattle.lines.specs.Buffer.{TextPut, longest_line};

@@ -1,38 +1,42 @@
 // Standard input, read as it comes: what is at hand is used before more is waited for.
 ghost use Rattle.std.specs.Prelude.{◌+◌, ◌-◌, ◌≤◌, ◌≡◌, length, take, drop};
 
-use libc::STDIN_FILENO;
+use std::io;
+use std::io::Read;
 
-// How many bytes are held, or came, and whether a read has failed.
-#[derive(Drop)]
+// How many bytes are held, or came, and why a read has failed, if one has.
+#[derive(Clone, Copy)]
 pub(crate) struct Held {
     pub count: usize,
-    pub failed: bool,
+    pub failed: Option<io::Error>,
 }
 
 // One read behind the bytes that are held, which stay; none come at the end of the input.
-fn read_behind(bytes: &mut [u8], held: usize) -> Held
+fn read_behind(from: &mut impl Read, bytes: &mut [u8], held: usize) -> Held
     requires { held ≤ length bytes.old }
     ensures { (held + result.count ≤ length bytes.new) × (take held bytes.new ≡ take held bytes.old) }
 {
-    let part = &mut bytes[held..];
-    let got = libc::read(STDIN_FILENO, part);
-    let count = io::count(got, part);
-    Held {
-        count,
-        failed: got < 0,
+    match from.read(&mut bytes[held..]) {
+        Ok(count) => Held {
+            count,
+            failed: None,
+        },
+        Err(why) => Held {
+            count: 0,
+            failed: Some(why),
+        },
     }
 }
 
 // Reads on until at least `wanted` bytes are held, the input ends or a read fails. What was held stays in front.
-pub(crate) fn fill(bytes: &mut [u8], count: usize, wanted: usize) -> Held
+pub(crate) fn fill(from: &mut impl Read, bytes: &mut [u8], count: usize, wanted: usize) -> Held
     requires { (count ≤ length bytes.old) × (length bytes.old ≤ 65536) }
     ensures { (count ≤ result.count) × (result.count ≤ length bytes.new) × (take count bytes.new ≡ take count bytes.old) }
 {
     let mut held = count;
-    let mut failed = false;
+    let mut failed = None;
     while held < wanted {
-        let more = read_behind(bytes, held);
+        let more = read_behind(from, bytes, held);
         if more.count == 0 {
             failed = more.failed;
             break;

@@ -1,6 +1,8 @@
 // A book in 1,540 bytes, for the test programs: the count in 4 bytes, and then 64 entries of 24. An entry has its number, limit, quantity, working
 // price and display in 4 bytes each, and then a byte each for party, kind, side (1 sells) and pricing (0 fixed, 1 dark, else sliding).
 // Numbers have their most significant byte first. Nothing is judged: every picture is read, however damaged its book.
+#![tactic(auto)]
+
 ghost use Rattle.std.specs.Prelude.{◌≡◌, ◌≤◌};
 ghost use Rattle.test_book_bytes.specs.Layout.{pricing_read, entry_at, book_in};
 

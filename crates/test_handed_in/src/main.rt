@@ -3,6 +3,8 @@
 //
 // tests/handed_in.py writes the cases, and what must be printed. A case is 1,614 bytes: the series (crate test_series_bytes), the lengths of
 // the room and of the message in 4 bytes each, and 16 bytes that hold the message from the front.
+#![tactic(auto)]
+
 mod room;
 mod tell;
 
@@ -10,8 +12,10 @@ ghost use Rattle.std.specs.Prelude.{◌≤◌, ◌≡◌, length};
 ghost use Rattle.test_handed_in.specs.Case.{length_at};
 
 use handler::handle::handle;
-use libc::{STDIN_FILENO, STDOUT_FILENO};
 use lines::line::{LONGEST_ANSWER, answer_lines};
+use std::io;
+use std::io::Read;
+use test_reading::input::read_full;
 use test_reading::number_at;
 use test_series_bytes::series_of;
 
@@ -27,42 +31,63 @@ fn length_at(bytes: &[u8], at: usize, most: usize) -> usize
 }
 
 // What the session program prints for this answer to message `number`.
-fn tell_answer(out: &mut [u8], number: u64, refusal: u32, count: usize, room: &[u8]) {
+fn tell_answer(
+    rt: &impl Print,
+    out: &mut [u8],
+    number: u64,
+    refusal: u32,
+    count: usize,
+    room: &[u8],
+) -> io::Result<()> {
     let end = answer_lines(out, 0, number, refusal, count, room);
-    io::write_all(STDOUT_FILENO, &out[..end]);
+    rt.write_all(&out[..end])
 }
 
 // A case, with its room.
-fn try_with(bytes: &[u8], number: u64, room: &mut [u8], out: &mut [u8])
+fn try_with(
+    rt: &impl Print,
+    bytes: &[u8],
+    number: u64,
+    room: &mut [u8],
+    out: &mut [u8],
+) -> io::Result<()>
     requires { length bytes.now ≡ 1614 }
 {
     let end = 1598 + length_at(bytes, 1594, 16);
     let answer = handle(series_of(bytes), &bytes[1598..end], room);
-    tell_answer(out, number, answer.refusal, answer.count, room);
-    room::tell_room(room, answer.count);
-    tell::tell_series(answer.series)
+    tell_answer(rt, out, number, answer.refusal, answer.count, room)?;
+    room::tell_room(rt, room, answer.count)?;
+    tell::tell_series(rt, answer.series)
 }
 
 // Before it is handed to the handler, the room holds nothing but the filling.
-fn try_case(bytes: &[u8], number: u64, out: &mut [u8])
+fn try_case(rt: &impl Print, bytes: &[u8], number: u64, out: &mut [u8]) -> io::Result<()>
     requires { length bytes.now ≡ 1614 }
 {
     let mut room = [165u8; 40000];
     let size = length_at(bytes, 1590, 40000);
-    try_with(bytes, number, &mut room[..size], out)
+    try_with(rt, bytes, number, &mut room[..size], out)
+}
+
+// One case, or none where the input has ended.
+fn turn(rt: &impl Print, input: &mut impl Read, number: u64, out: &mut [u8]) -> io::Result<bool> {
+    let mut bytes = [0u8; 1614];
+    let n = read_full(input, &mut bytes)?;
+    if n < 1614 {
+        return Ok(false);
+    }
+    try_case(rt, &bytes, number, out)?;
+    Ok(true)
 }
 
 // As many cases as there are, and 1,000 at most.
-fn main() {
-    let mut bytes = [0u8; 1614];
+fn main(rt: HostRuntime) -> io::Result<()> {
+    let mut input = rt.stdin();
     let mut out = [0u8; LONGEST_ANSWER];
-    let mut number: u64 = 1;
-    while number <= 1000 {
-        let n = io::read_full(STDIN_FILENO, &mut bytes);
-        if n < 1614 {
-            return;
+    for number in 1..1001u64 {
+        if !turn(&rt, &mut input, number, &mut out)? {
+            break;
         }
-        try_case(&bytes, number, &mut out);
-        number += 1;
     }
+    Ok(())
 }

@@ -3,7 +3,7 @@ ghost use Rattle.std.specs.Prelude.{◌≤◌, ◌≡◌, length, drop};
 ghost use Rattle.lists.specs.Tests.{all};
 ghost use Rattle.test_handed_in.specs.Case.{filling};
 
-use libc::STDOUT_FILENO;
+use std::io;
 
 fn is_filling(byte: u8) -> bool
     ensures { result ≡ filling byte }
@@ -36,10 +36,10 @@ fn is_kept(room: &[u8], from: usize) -> bool
     true
 }
 
-pub(crate) fn tell_room(room: &[u8], count: usize) {
+pub(crate) fn tell_room(rt: &impl Print, room: &[u8], count: usize) -> io::Result<()> {
     if is_kept(room, reports_end(room, count)) {
-        io::write_all(STDOUT_FILENO, b"room kept\n");
+        rt.print("room kept\n")
     } else {
-        io::write_all(STDOUT_FILENO, b"room changed\n");
+        rt.print("room changed\n")
     }
 }

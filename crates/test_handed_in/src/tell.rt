@@ -5,18 +5,17 @@ ghost use Rattle.test_handed_in.specs.Case.{sort_of, blank};
 
 use book::entries::{display_of, kind_of, party_of};
 use book::{Book, Entry, Pricing};
-use libc::STDOUT_FILENO;
 use series::Series;
+use std::io;
 use terms::Terms;
 
-fn print(text: &[u8]) {
-    io::write_all(STDOUT_FILENO, text);
+fn print(rt: &impl Print, text: &[u8]) -> io::Result<()> {
+    rt.write_all(text)
 }
 
 // A number with a space before it.
-fn print_number(n: u32) {
-    print(b" ");
-    io::print_decimal(STDOUT_FILENO, n as u64);
+fn print_number(rt: &impl Print, n: u32) -> io::Result<()> {
+    print!(rt; " {n}")
 }
 
 fn digit(yes: bool) -> u32
@@ -51,72 +50,70 @@ fn is_blank(e: Entry) -> bool
                     & (!e.sell & ((e.limit == 0) & ((e.quantity == 0) & (e.working == 0)))))))
 }
 
-fn tell_terms(t: Terms) {
-    print_number(digit(t.put));
-    print_number(digit(t.exempt));
-    print_number(t.m);
-    print_number(t.k);
-    print_number(t.strike);
-    print_number(t.phase);
-    print_number(t.bid);
-    print_number(t.offer);
-    print_number(t.underlying);
-    print_number(t.given);
+fn tell_terms(rt: &impl Print, t: Terms) -> io::Result<()> {
+    print_number(rt, digit(t.put))?;
+    print_number(rt, digit(t.exempt))?;
+    print_number(rt, t.m)?;
+    print_number(rt, t.k)?;
+    print_number(rt, t.strike)?;
+    print_number(rt, t.phase)?;
+    print_number(rt, t.bid)?;
+    print_number(rt, t.offer)?;
+    print_number(rt, t.underlying)?;
+    print_number(rt, t.given)
 }
 
 // Makers 1 to 16: 1 is blocked.
-fn tell_blocked(blocked: [bool; 16]) {
-    print(b" ");
-    let mut i = 0usize;
-    while i < 16 {
-        io::print_decimal(STDOUT_FILENO, digit(blocked[i]) as u64);
-        i += 1;
+fn tell_blocked(rt: &impl Print, blocked: [bool; 16]) -> io::Result<()> {
+    print(rt, b" ")?;
+    for i in 0..16usize {
+        rt.print(digit(blocked[i]))?;
     }
+    Ok(())
 }
 
 // Number, party, kind, side, limit, quantity, display (0 for none) and working price; and how it is priced.
-fn tell_entry(e: Entry) {
-    print_number(e.number);
-    print_number(party_of(e));
-    print_number(kind_of(e));
-    print_number(digit(e.sell));
-    print_number(e.limit);
-    print_number(e.quantity);
-    print_number(display_of(e));
-    print_number(e.working);
-    print_number(sort_of(e));
-    print(b"\n");
+fn tell_entry(rt: &impl Print, e: Entry) -> io::Result<()> {
+    print_number(rt, e.number)?;
+    print_number(rt, party_of(e))?;
+    print_number(rt, kind_of(e))?;
+    print_number(rt, digit(e.sell))?;
+    print_number(rt, e.limit)?;
+    print_number(rt, e.quantity)?;
+    print_number(rt, display_of(e))?;
+    print_number(rt, e.working)?;
+    print_number(rt, sort_of(e))?;
+    print(rt, b"\n")
 }
 
 // Something at rest; and what stands in a place that ought to be unused, if there is anything.
-fn tell_place(e: Entry, resting: bool) {
+fn tell_place(rt: &impl Print, e: Entry, resting: bool) -> io::Result<()> {
     if resting {
-        print(b"rests");
-        return tell_entry(e);
+        print(rt, b"rests")?;
+        return tell_entry(rt, e);
     }
-    if !is_blank(e) {
-        print(b"left over");
-        tell_entry(e);
+    if is_blank(e) {
+        return Ok(());
     }
+    print(rt, b"left over")?;
+    tell_entry(rt, e)
 }
 
-fn tell_book(b: Book) {
-    let mut i = 0usize;
-    while i < 64 {
-        tell_place(b.entries[i], i < b.count);
-        i += 1;
+fn tell_book(rt: &impl Print, b: Book) -> io::Result<()> {
+    for i in 0..64usize {
+        tell_place(rt, b.entries[i], i < b.count)?;
     }
+    Ok(())
 }
 
-pub(crate) fn tell_series(s: Series) {
+pub(crate) fn tell_series(rt: &impl Print, s: Series) -> io::Result<()> {
     let terms = s.terms;
     let blocked = s.blocked;
     let book = s.book;
-    print(b"series");
-    tell_terms(terms);
-    tell_blocked(blocked);
-    io::write_all(STDOUT_FILENO, b" ");
-    io::print_decimal(STDOUT_FILENO, book.count as u64);
-    print(b"\n");
-    tell_book(book)
+    let count = book.count;
+    print(rt, b"series")?;
+    tell_terms(rt, terms)?;
+    tell_blocked(rt, blocked)?;
+    println!(rt; " {count}")?;
+    tell_book(rt, book)
 }

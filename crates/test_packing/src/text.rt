@@ -1,33 +1,29 @@
 // Text: lines, digits and what is printed.
 ghost use Rattle.std.specs.Prelude.{◌<◌, ◌≤◌, length};
 
-use libc::STDOUT_FILENO;
-use test_reading::wide;
+use std::io;
 
-pub(crate) fn print(text: &[u8]) {
-    io::write_all(STDOUT_FILENO, text);
+pub(crate) fn print(rt: &impl Print, text: &[u8]) -> io::Result<()> {
+    rt.write_all(text)
 }
 
 // A number with a space in front.
-pub(crate) fn print_next(n: u32) {
-    print(b" ");
-    io::print_decimal(STDOUT_FILENO, n as u64);
+pub(crate) fn print_next(rt: &impl Print, n: u32) -> io::Result<()> {
+    print!(rt; " {n}")
 }
 
-pub(crate) fn print_all(ns: &[u32]) {
-    let mut i = 0;
-    while i < ns.len() {
-        print_next(ns[i]);
-        i += 1;
+pub(crate) fn print_all(rt: &impl Print, ns: &[u32]) -> io::Result<()> {
+    for n in ns {
+        print_next(rt, *n)?;
     }
+    Ok(())
 }
 
-pub(crate) fn print_bytes(bytes: &[u8]) {
-    let mut i = 0;
-    while i < bytes.len() {
-        io::print_hex(STDOUT_FILENO, wide(bytes[i]) as u64, 2);
-        i += 1;
+pub(crate) fn print_bytes(rt: &impl Print, bytes: &[u8]) -> io::Result<()> {
+    for byte in bytes {
+        print!(rt; "{byte:02x}")?;
     }
+    Ok(())
 }
 
 // Where the line that starts at `at` ends: at its line end, or at the text's end.

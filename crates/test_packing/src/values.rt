@@ -1,15 +1,16 @@
 // What bytes unpack to, and whether that packs to the same bytes again.
-use crate::text::{print, print_all, stands};
+use crate::text::{print, print_all, print_bytes, stands};
 use packing::message::{Entering, Event};
 use packing::report::Report;
 use packing::setup::Setup;
+use std::io;
 use test_reading::{number_at, wide};
 
-fn print_same(ok: bool, same: bool) {
+fn print_same(rt: &impl Print, ok: bool, same: bool) -> io::Result<()> {
     if ok & same {
-        print(b" same");
+        print(rt, b" same")
     } else {
-        print(b" other");
+        print(rt, b" other")
     }
 }
 
@@ -36,96 +37,104 @@ fn numbers(e: Event) -> [u32; 5] {
 }
 
 // What a message that stands at a place of a run unpacked to.
-fn tell_message(u: packing::message::Unpacked, run: &[u8], at: usize) {
+fn tell_message(
+    rt: &impl Print,
+    u: packing::message::Unpacked,
+    run: &[u8],
+    at: usize,
+) -> io::Result<()> {
     let packing::message::Unpacked::Message(e) = u else {
-        print(b" nothing");
-        return;
+        return print(rt, b" nothing");
     };
     let ns = numbers(e);
-    print_all(&ns);
+    print_all(rt, &ns)?;
     let p = packing::message::pack(e);
     let bytes = p.bytes;
-    print_same(p.ok, stands(&bytes, run, at));
+    print_same(rt, p.ok, stands(&bytes, run, at))
 }
 
-pub(crate) fn message(part: &[u8]) {
-    print(b"message");
+pub(crate) fn message(rt: &impl Print, part: &[u8]) -> io::Result<()> {
+    print(rt, b"message")?;
     let u = packing::message::unpack(part);
-    tell_message(u, part, 0);
+    tell_message(rt, u, part, 0)
 }
 
 // The first byte is the place, and the others are the run.
-pub(crate) fn in_run(part: &[u8]) {
-    print(b"run");
+pub(crate) fn in_run(rt: &impl Print, part: &[u8]) -> io::Result<()> {
+    print(rt, b"run")?;
     if part.len() == 0 {
-        return;
+        return Ok(());
     }
     let at = wide(part[0]) as usize;
     let run = &part[1..];
     let u = packing::message::unpack_at(run, at);
-    tell_message(u, run, at);
+    tell_message(rt, u, run, at)
 }
 
-pub(crate) fn report(part: &[u8]) {
-    print(b"report");
+pub(crate) fn report(rt: &impl Print, part: &[u8]) -> io::Result<()> {
+    print(rt, b"report")?;
     let u = packing::report::unpack(part);
     let packing::report::Unpacked::Told(r) = u else {
-        print(b" nothing");
-        return;
+        return print(rt, b" nothing");
     };
     let ns = packing::report::fields_of(r);
-    print_all(&ns);
+    print_all(rt, &ns)?;
     let p = packing::report::pack(r);
     let bytes = p.bytes;
-    print_same(p.ok, stands(&bytes, part, 0));
+    print_same(rt, p.ok, stands(&bytes, part, 0))
 }
 
-pub(crate) fn setup(part: &[u8]) {
-    print(b"setup");
+pub(crate) fn setup(rt: &impl Print, part: &[u8]) -> io::Result<()> {
+    print(rt, b"setup")?;
     let u = packing::setup::unpack(part);
     let packing::setup::Unpacked::Series(s) = u else {
-        print(b" nothing");
-        return;
+        return print(rt, b" nothing");
     };
     let ns = [s.put as u32, s.exempt as u32, s.m, s.k, s.strike];
-    print_all(&ns);
+    print_all(rt, &ns)?;
     let p = packing::setup::pack(s);
     let bytes = p.bytes;
-    print_same(p.ok, stands(&bytes, part, 0));
+    print_same(rt, p.ok, stands(&bytes, part, 0))
 }
 
 // Writes a report at a place of a room, and prints what the room then holds.
-fn print_put(room: &mut [u8], at: usize, r: Report) {
+fn print_put(rt: &impl Print, room: &mut [u8], at: usize, r: Report) -> io::Result<()> {
     if packing::room::put_report(room, at, r) {
-        print(b" put ");
+        print(rt, b" put ")?;
     } else {
-        print(b" left ");
+        print(rt, b" left ")?;
     }
-    crate::text::print_bytes(room);
+    print_bytes(rt, room)
 }
 
 // The same, with a room of n bytes.
-fn print_put_first(room: &mut [u8], n: usize, at: usize, r: Report) {
+fn print_put_first(
+    rt: &impl Print,
+    room: &mut [u8],
+    n: usize,
+    at: usize,
+    r: Report,
+) -> io::Result<()> {
     if n <= room.len() {
-        print_put(&mut room[..n], at, r);
+        print_put(rt, &mut room[..n], at, r)?;
     }
+    Ok(())
 }
 
 // The first byte is the room's length, the second the place, and the others are the report.
-pub(crate) fn in_room(part: &[u8]) {
-    print(b"room");
+pub(crate) fn in_room(rt: &impl Print, part: &[u8]) -> io::Result<()> {
+    print(rt, b"room")?;
     if part.len() < 2 {
-        return;
+        return Ok(());
     }
     let n = wide(part[0]) as usize;
     let at = wide(part[1]) as usize;
     let u = packing::report::unpack(&part[2..]);
     let packing::report::Unpacked::Told(r) = u else {
-        print(b" nothing");
-        return;
+        return print(rt, b" nothing");
     };
     let mut room = [238u8; 64];
-    print_put_first(&mut room, n, at, r);
+    print_put_first(rt, &mut room, n, at, r)
 }
 
 fn packs(e: Event) -> u32 {
@@ -207,13 +216,13 @@ fn setup_widths(n: u32) -> [u32; 3] {
 }
 
 // Which values pack that have this number in one field, and small ones in the others.
-pub(crate) fn widths(part: &[u8]) {
-    print(b"widths");
+pub(crate) fn widths(rt: &impl Print, part: &[u8]) -> io::Result<()> {
+    print(rt, b"widths")?;
     let n = number_at(part, 0);
     let a = message_widths(n);
-    print_all(&a);
+    print_all(rt, &a)?;
     let b = report_widths(n);
-    print_all(&b);
+    print_all(rt, &b)?;
     let c = setup_widths(n);
-    print_all(&c);
+    print_all(rt, &c)
 }

@@ -2,16 +2,20 @@
 // stdout, made by tests/price_vectors.py and not by this program.
 //
 // A question is nine numbers of four bytes, most significant first: what is asked, and eight figures. `-` is printed for a question that no rule answers.
+#![tactic(auto)]
+
 mod tell;
 
 ghost use Rattle.std.specs.Prelude.{◌≡◌};
 ghost use Rattle.test_prices.specs.Question.{question_in};
 
-use libc::STDIN_FILENO;
+use std::io;
+use std::io::Read;
+use test_reading::input::read_full;
 use test_reading::number_at;
 
 // What is asked, and its figures; those that it does not use are zero.
-#[derive(Drop)]
+#[derive(Clone, Copy)]
 struct Question {
     ask: u32,
     a: u32,
@@ -40,43 +44,43 @@ fn asked_in(bytes: &[u8]) -> Question
     }
 }
 
-fn answer(q: Question) {
+fn answer(rt: &impl Print, q: Question) -> io::Result<()> {
     let ask = q.ask;
     match ask {
-        1 => tell::aims(q.a, q.b, q.c, q.d, q.e, q.f),
-        2 => tell::protection(q.a != 0, q.b != 0, q.c, q.d, q.e != 0, q.f, q.g),
-        3 => tell::stop(q.a, q.b, q.c, q.d != 0, q.e, q.f, q.g, q.h),
-        4 => tell::resting(q.a != 0, q.b, q.c, q.d),
-        5 => tell::eased(q.a != 0, q.b, q.c, q.d),
-        6 => tell::legal(q.a, q.b),
-        7 => tell::stirring(q.a, q.b, q.c != 0, q.d, q.e, q.f, q.g, q.h),
-        8 => tell::slide(q.a, q.b != 0, q.c, q.d, q.e),
-        9 => tell::best(q.a != 0, q.b, q.c),
-        10 => tell::away(q.a != 0, q.b, q.c),
-        11 => tell::figures_of_stop(q.a, q.b, q.c, q.d != 0, q.e, q.f, q.g, q.h),
-        12 => tell::figures_of_bar(q.a, q.b != 0, q.c != 0, q.d, q.e, q.f != 0, q.g, q.h),
-        _ => tell::nothing(),
+        1 => tell::aims(rt, q.a, q.b, q.c, q.d, q.e, q.f),
+        2 => tell::protection(rt, q.a != 0, q.b != 0, q.c, q.d, q.e != 0, q.f, q.g),
+        3 => tell::stop(rt, q.a, q.b, q.c, q.d != 0, q.e, q.f, q.g, q.h),
+        4 => tell::resting(rt, q.a != 0, q.b, q.c, q.d),
+        5 => tell::eased(rt, q.a != 0, q.b, q.c, q.d),
+        6 => tell::legal(rt, q.a, q.b),
+        7 => tell::stirring(rt, q.a, q.b, q.c != 0, q.d, q.e, q.f, q.g, q.h),
+        8 => tell::slide(rt, q.a, q.b != 0, q.c, q.d, q.e),
+        9 => tell::best(rt, q.a != 0, q.b, q.c),
+        10 => tell::away(rt, q.a != 0, q.b, q.c),
+        11 => tell::figures_of_stop(rt, q.a, q.b, q.c, q.d != 0, q.e, q.f, q.g, q.h),
+        12 => tell::figures_of_bar(rt, q.a, q.b != 0, q.c != 0, q.d, q.e, q.f != 0, q.g, q.h),
+        _ => tell::nothing(rt),
     }
 }
 
 // One question, or none where the input has ended.
-fn turn() -> bool {
+fn turn(rt: &impl Print, input: &mut impl Read) -> io::Result<bool> {
     let mut bytes = [0u8; 36];
-    let n = io::read_full(STDIN_FILENO, &mut bytes);
+    let n = read_full(input, &mut bytes)?;
     if n < 36 {
-        return false;
+        return Ok(false);
     }
-    answer(asked_in(&bytes));
-    tell::end();
-    true
+    answer(rt, asked_in(&bytes))?;
+    tell::end(rt)?;
+    Ok(true)
 }
 
-fn main() {
-    let mut left: u32 = 1000000;
-    while left > 0 {
-        if !turn() {
-            return;
+fn main(rt: HostRuntime) -> io::Result<()> {
+    let mut input = rt.stdin();
+    for _ in 0..1000000u32 {
+        if !turn(&rt, &mut input)? {
+            break;
         }
-        left -= 1;
     }
+    Ok(())
 }

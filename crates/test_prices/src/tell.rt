@@ -1,5 +1,4 @@
 // The answer to each kind of question. A rule that asks something of its caller is asked only where that holds.
-use libc::STDOUT_FILENO;
 use prices::ease::eased_to;
 use prices::post::{stop_figures, stop_of};
 use prices::protect::{bar_figures, protection_of};
@@ -8,41 +7,47 @@ use prices::rest::{is_slide, is_stirring_at, resting_of};
 use prices::side::{away_of, nearer_of};
 use prices::step::{is_legal, is_mpv, is_none_or_legal};
 use prices::{Figures, Guard, Market, Prices};
+use std::io;
 
-pub(crate) fn end() {
-    io::write_all(STDOUT_FILENO, b"\n");
+pub(crate) fn end(rt: &impl Print) -> io::Result<()> {
+    rt.print("\n")
 }
 
-pub(crate) fn nothing() {
-    io::write_all(STDOUT_FILENO, b"-");
+pub(crate) fn nothing(rt: &impl Print) -> io::Result<()> {
+    rt.print("-")
 }
 
-fn number(n: u32) {
-    io::print_decimal(STDOUT_FILENO, n as u64);
+fn number(rt: &impl Print, n: u32) -> io::Result<()> {
+    rt.print(n)
 }
 
 // A further number on the line.
-fn then(n: u32) {
-    io::write_all(STDOUT_FILENO, b" ");
-    number(n);
+fn then(rt: &impl Print, n: u32) -> io::Result<()> {
+    rt.print(" ")?;
+    number(rt, n)
 }
 
-fn truth(b: bool) {
-    if b {
-        number(1);
-    } else {
-        number(0);
-    }
+fn truth(rt: &impl Print, b: bool) -> io::Result<()> {
+    if b { number(rt, 1) } else { number(rt, 0) }
 }
 
-pub(crate) fn aims(kind: u32, side: u32, limit: u32, away: u32, contra: u32, m: u32) {
+pub(crate) fn aims(
+    rt: &impl Print,
+    kind: u32,
+    side: u32,
+    limit: u32,
+    away: u32,
+    contra: u32,
+    m: u32,
+) -> io::Result<()> {
     let r = request_aims(kind, side, limit, away, contra, m);
-    number(r.refusal);
-    then(r.display);
-    then(r.working);
+    number(rt, r.refusal)?;
+    then(rt, r.display)?;
+    then(rt, r.working)
 }
 
 pub(crate) fn protection(
+    rt: &impl Print,
     put: bool,
     exempt: bool,
     strike: u32,
@@ -50,12 +55,12 @@ pub(crate) fn protection(
     sell: bool,
     best: u32,
     limit: u32,
-) {
+) -> io::Result<()> {
     if best > 100000 {
-        return nothing();
+        return nothing(rt);
     }
     if limit > 100000 {
-        return nothing();
+        return nothing(rt);
     }
     let guard = Guard {
         put,
@@ -63,10 +68,11 @@ pub(crate) fn protection(
         strike,
         underlying,
     };
-    number(protection_of(guard, sell, best, limit));
+    number(rt, protection_of(guard, sell, best, limit))
 }
 
 pub(crate) fn stop(
+    rt: &impl Print,
     m: u32,
     k: u32,
     kind: u32,
@@ -75,22 +81,23 @@ pub(crate) fn stop(
     away: u32,
     hidden: u32,
     display: u32,
-) {
+) -> io::Result<()> {
     if k > 100 {
-        return nothing();
+        return nothing(rt);
     }
     if is_mpv(m) {
-        return number(stop_of(m, k, kind, sell, limit, away, hidden, display));
+        return number(rt, stop_of(m, k, kind, sell, limit, away, hidden, display));
     }
-    nothing();
+    nothing(rt)
 }
 
-fn both(figures: Figures) {
-    number(figures.first);
-    then(figures.second);
+fn both(rt: &impl Print, figures: Figures) -> io::Result<()> {
+    number(rt, figures.first)?;
+    then(rt, figures.second)
 }
 
 pub(crate) fn figures_of_stop(
+    rt: &impl Print,
     rule: u32,
     m: u32,
     k: u32,
@@ -99,17 +106,21 @@ pub(crate) fn figures_of_stop(
     away: u32,
     hidden: u32,
     display: u32,
-) {
+) -> io::Result<()> {
     if k > 100 {
-        return nothing();
+        return nothing(rt);
     }
     if is_mpv(m) {
-        return both(stop_figures(rule, m, k, sell, limit, away, hidden, display));
+        return both(
+            rt,
+            stop_figures(rule, m, k, sell, limit, away, hidden, display),
+        );
     }
-    nothing();
+    nothing(rt)
 }
 
 pub(crate) fn figures_of_bar(
+    rt: &impl Print,
     rule: u32,
     put: bool,
     exempt: bool,
@@ -118,12 +129,12 @@ pub(crate) fn figures_of_bar(
     sell: bool,
     best: u32,
     limit: u32,
-) {
+) -> io::Result<()> {
     if best > 100000 {
-        return nothing();
+        return nothing(rt);
     }
     if limit > 100000 {
-        return nothing();
+        return nothing(rt);
     }
     let guard = Guard {
         put,
@@ -131,37 +142,50 @@ pub(crate) fn figures_of_bar(
         strike,
         underlying,
     };
-    both(bar_figures(rule, guard, sell, best, limit));
+    both(rt, bar_figures(rule, guard, sell, best, limit))
 }
 
-pub(crate) fn resting(sell: bool, shown: u32, display: u32, working: u32) {
+pub(crate) fn resting(
+    rt: &impl Print,
+    sell: bool,
+    shown: u32,
+    display: u32,
+    working: u32,
+) -> io::Result<()> {
     let aim = Prices { display, working };
     let r = resting_of(sell, shown, aim);
-    number(r.display);
-    then(r.working);
+    number(rt, r.display)?;
+    then(rt, r.working)
 }
 
-pub(crate) fn eased(sell: bool, away: u32, display: u32, working: u32) {
-    number(eased_to(sell, away, display, working));
+pub(crate) fn eased(
+    rt: &impl Print,
+    sell: bool,
+    away: u32,
+    display: u32,
+    working: u32,
+) -> io::Result<()> {
+    number(rt, eased_to(sell, away, display, working))
 }
 
-pub(crate) fn best(sell: bool, away: u32, shown: u32) {
-    number(nearer_of(sell, away, shown));
+pub(crate) fn best(rt: &impl Print, sell: bool, away: u32, shown: u32) -> io::Result<()> {
+    number(rt, nearer_of(sell, away, shown))
 }
 
-pub(crate) fn away(sell: bool, bid: u32, offer: u32) {
+pub(crate) fn away(rt: &impl Print, sell: bool, bid: u32, offer: u32) -> io::Result<()> {
     let market = Market { m: 1, bid, offer };
-    number(away_of(market, sell));
+    number(rt, away_of(market, sell))
 }
 
-pub(crate) fn legal(m: u32, p: u32) {
+pub(crate) fn legal(rt: &impl Print, m: u32, p: u32) -> io::Result<()> {
     if is_mpv(m) {
-        return truth(is_legal(m, p));
+        return truth(rt, is_legal(m, p));
     }
-    nothing();
+    nothing(rt)
 }
 
 pub(crate) fn stirring(
+    rt: &impl Print,
     m: u32,
     kind: u32,
     sell: bool,
@@ -170,20 +194,30 @@ pub(crate) fn stirring(
     contra: u32,
     display: u32,
     working: u32,
-) {
+) -> io::Result<()> {
     if is_mpv(m) {
         if is_none_or_legal(m, away) {
             if is_none_or_legal(m, contra) {
-                return truth(is_stirring_at(m, kind, sell, limit, away, contra, display, working));
+                return truth(
+                    rt,
+                    is_stirring_at(m, kind, sell, limit, away, contra, display, working),
+                );
             }
         }
     }
-    nothing();
+    nothing(rt)
 }
 
-pub(crate) fn slide(m: u32, sell: bool, limit: u32, display: u32, working: u32) {
+pub(crate) fn slide(
+    rt: &impl Print,
+    m: u32,
+    sell: bool,
+    limit: u32,
+    display: u32,
+    working: u32,
+) -> io::Result<()> {
     if is_mpv(m) {
-        return truth(is_slide(m, sell, limit, display, working));
+        return truth(rt, is_slide(m, sell, limit, display, working));
     }
-    nothing();
+    nothing(rt)
 }

@@ -1,4 +1,8 @@
 // Numbers that stand in bytes, for the test programs: most significant byte first.
+#![tactic(auto)]
+
+pub mod input;
+
 ghost use Rattle.std.specs.Prelude.{◌≡◌, ◌<◌};
 ghost use Rattle.test_reading.specs.Number.{byte_at, number_at};
 

@@ -1,6 +1,8 @@
 // A series in 1,590 bytes, for the test programs: M, K, strike, phase, away bid, away offer, underlying price and the last number given in 4
 // bytes each, a byte each for put and exempt (1 is yes), 16 bytes for the makers (1 is blocked), and then the book (crate test_book_bytes).
 // Nothing is judged: every picture is read, however damaged its series.
+#![tactic(auto)]
+
 ghost use Rattle.std.specs.Prelude.{◌≡◌, ◌≤◌, length};
 ghost use Rattle.test_series_bytes.specs.Layout.{terms_in, blocked_in, series_in};
 

@@ -26,8 +26,8 @@ pub record GoesOn (left size used number : ℕ) : Type 0 where
   pub room : used + longest_answer ≤ size
   pub numbered : number < most_messages
 
-pub goes_on : (ended : Bool) (left size used number : ℕ) → goes_on ended left size used number ≡ true → GoesOn left size used number
-goes_on ended left size used number h = record {
+pub goes_on-tells : (ended : Bool) (left size used number : ℕ) → goes_on ended left size used number ≡ true → GoesOn left size used number
+goes_on-tells ended left size used number h = record {
   some = by ended (and_left (holds_next ended left) (leb (used + longest_answer) size && ltb number most_messages) h);
   room = leb-true (used + longest_answer) size (and_left (leb (used + longest_answer) size) (ltb number most_messages) rest);
   numbered = ltb-true number most_messages (and_right (leb (used + longest_answer) size) (ltb number most_messages) rest);
@@ -90,7 +90,7 @@ module _ {view : View} {start : Series} {number : ℕ} {held : List ℕ} {ended 
   goes {told'} {out'} h t = by u.left u.same u.enough
     where
       on : GoesOn (length held - told.at) (length out) told.used told.number
-      on = goes_on ended (length held - told.at) (length out) told.used told.number h
+      on = goes_on-tells ended (length held - told.at) (length out) told.used told.number h
 
       by : (n : ℕ) → tell_on view n ended held (length out₀) (telling_as told u.text) ≡ held_told view start number held ended (length out₀)
           → length held ≤ told.at + n → Underway view start number held ended out₀ told' out'
@@ -107,7 +107,7 @@ module _ {view : View} {start : Series} {number : ℕ} {held : List ℕ} {ended 
 
   pub less : {told' : Told} {out' : List ℕ} → goes_on ended (length held - told.at) (length out) told.used told.number ≡ true
       → Turned view held told out told' out' → length held - told'.at < length held - told.at
-  less h t = omega (arith, (goes_on ended (length held - told.at) (length out) told.used told.number h).some, t.at)
+  less h t = omega (arith, (goes_on-tells ended (length held - told.at) (length out) told.used told.number h).some, t.at)
 
   pub ends : goes_on ended (length held - told.at) (length out) told.used told.number ≡ false
       → (told ≡ told_by (held_told view start number held ended (length out₀)))

@@ -14,7 +14,7 @@ use Rattle.lines.specs.Buffer.{longest_answer}
 use Rattle.transcript.specs.declared.Told.{Told}
 use Rattle.transcript.specs.declared.View.{View}
 use Rattle.transcript.specs.Held.{most_messages, holds_next, Telling, goes_on, next, tell_on, held_told, told_by}
-use Rattle.transcript.proofs.HeldLaws.{goes_on, goes-where}
+use Rattle.transcript.proofs.HeldLaws.{goes_on-tells, goes-where}
 
 -- a message is held where there are as many bytes as one has, and in what the input ends with
 pub holds-whole : (ended : Bool) (left : ℕ) → message_size ≤ left → holds_next ended left ≡ true
@@ -50,7 +50,7 @@ onward view (suc turns) ended held size t h =
         → Onward held (next view held t) (tell_on view turns ended held size (next view held t))
         → Onward held t (cond b (tell_on view turns ended held size (next view held t)) t)
     by true e o =
-        let some = (goes_on ended (length held - t.at) size (length t.text) t.number e).some in
+        let some = (goes_on-tells ended (length held - t.at) size (length t.text) t.number e).some in
         record { number = omega (arith, o.number); at = omega (arith, o.at); within = o.within; paced = omega (arith, o.paced, some) }
     by false e o = record { number = omega arith; at = omega arith; within = h; paced = omega arith }
 
@@ -60,7 +60,8 @@ pub record ToldSome (number : ℕ) (t : Telling) : Type 0 where
   pub moved : 1 ≤ t.at
 
 -- THEOREM. EACH CALL THAT FINDS A MESSAGE TELLS ONE AT LEAST, in a buffer that has room for the longest answer
-pub tells-some : (view : View) (s : Series) (number : ℕ) (held : List ℕ) (ended : Bool) (size : ℕ) → holds_next ended (length held) ≡ true → longest_answer ≤ size
+pub tells-some : (view : View) (s : Series) (number : ℕ) (held : List ℕ) (ended : Bool) (size : ℕ) → holds_next ended (length held) ≡ true
+    → longest_answer ≤ size
     → number < most_messages → ToldSome number (held_told view s number held ended size)
 unfolding held_told tell_on
 tells-some view s number held ended size h space few = by (length held) refl
@@ -75,7 +76,7 @@ tells-some view s number held ended size h space few = by (length held) refl
     on = goes-where ended (length held - 0) size 0 number (ap (holds_next ended) all ∙ h) space few
 
     by : (n : ℕ) → length held ≡ n → ToldSome number (tell_on view n ended held size first)
-    by zero e = absurd (omega (arith, (goes_on ended (length held - 0) size 0 number on).some))
+    by zero e = absurd (omega (arith, (goes_on-tells ended (length held - 0) size 0 number on).some))
     by (suc n) e =
         let o = onward view n ended held size (next view held first) (omega arith) in
         rw on (record { numbered = omega (arith, o.number); moved = omega (arith, o.at, e) })

@@ -250,4 +250,5 @@ short-setup view input h = ap (λ (o : Option Setup). printed_for view o (drop s
 pub setup-alone : (view : View) (input : List ℕ) (setup : Setup) → setup_in input ≡ some setup → length input ≤ setup_size → transcript view input ≡ []
 unfolding transcript lines_for messages_in
 setup-alone view input setup u h =
-    ap (λ (o : Option Setup). printed_for view o (drop setup_size input)) u ∙ ap (lines_from view 1 (new_series setup)) (drop_of_length-le input {i = setup_size} h)
+    ap (λ (o : Option Setup). printed_for view o (drop setup_size input)) u
+    ∙ ap (lines_from view 1 (new_series setup)) (drop_of_length-le input {i = setup_size} h)

@@ -59,7 +59,8 @@ pub setup-told : (held out room : List ℕ) {made : Made} {at used : ℕ} {after
 setup-told held out room {made} {at} {used} {after} p m u a = (
   ap (λ (x : Made). record { refusal = x.refusal; series = x.series; at = at; used = used }) is
       ∙ ap (λ (k : ℕ). record { refusal = (opened (setup_in held)).refusal; series = (opened (setup_in held)).series; at = k; used = used }) p
-      ∙ ap (λ (k : ℕ). record { refusal = (opened (setup_in held)).refusal; series = (opened (setup_in held)).series; at = min (length held) setup_size; used = k })
+      ∙ ap
+      (λ (k : ℕ). record { refusal = (opened (setup_in held)).refusal; series = (opened (setup_in held)).series; at = min (length held) setup_size; used = k })
       (u ∙ ap (λ (q : ℕ × List ℕ). q.0) same),
   a ∙ ap (λ (q : ℕ × List ℕ). q.1) same,
 )

@@ -1,4 +1,6 @@
 // From the bytes that are held of a session's input to the lines that they give. Reading and writing are left to the programs.
+#![tactic(auto)]
+
 mod why_lines;
 
 ghost use Rattle.std.specs.Prelude.{◌≡◌, length, ◌+◌, ◌≤◌, ◌<◌, min};
@@ -28,7 +30,7 @@ use why_lines::why_lines;
 pub const MOST_MESSAGES: u64 = 1000000000000000000;
 
 // What is told of each message: its reports, the book that it leaves, or why each report says what it says.
-#[derive(Drop)]
+#[derive(Clone, Copy)]
 pub enum View {
     Reports,
     Book,
@@ -36,7 +38,7 @@ pub enum View {
 }
 
 // What a setup gave: the refusal or the series, where the first message stands, and how much was printed.
-#[derive(Drop)]
+#[derive(Clone, Copy)]
 pub struct Begun {
     pub refusal: u32,
     pub series: Series,
@@ -45,7 +47,7 @@ pub struct Begun {
 }
 
 // How far an input is told: the series, the next message's number and where it stands, and how much was printed.
-#[derive(Drop)]
+#[derive(Clone, Copy)]
 pub struct Told {
     pub series: Series,
     pub number: u64,
