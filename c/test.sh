@@ -10,27 +10,18 @@ set -uo pipefail
 cd "$(dirname "$(readlink -f "$0")")/.." || exit 2
 
 compiler=
-run=()
-case $(uname -m) in
-  x86_64)
-    for name in cc clang gcc; do command -v "$name" >/dev/null && compiler=$name && break; done ;;
-  *)
-    # the archive is for x86-64: another machine needs a compiler for that, and the kit's emulator
-    command -v x86_64-linux-gnu-gcc >/dev/null && compiler='x86_64-linux-gnu-gcc -static'
-    emulator=$(dirname "$(dirname "$(rt doc)")")/on/$(uname -m)/toolchain/bin/qemu-x86_64
-    run=("$emulator")
-    [ -x "$emulator" ] || compiler= ;;
-esac
+if [ "$(uname -m)" = x86_64 ]; then
+  for name in cc clang gcc; do command -v "$name" >/dev/null && compiler=$name && break; done
+fi
 if [ -z "$compiler" ]; then
   echo "c/test.sh: SKIPPED: $(uname -m) has no C compiler for x86-64 here (the archive is for x86-64)"
   exit 0
 fi
 
-rt staticlib server >target-staticlib.log 2>&1 || { tail -n 20 target-staticlib.log; rm -f target-staticlib.log; echo 'c/test.sh: no archive'; exit 1; }
-rm -f target-staticlib.log
-archive=target/staticlib/libserver.a
 work=$(mktemp -d)
 trap 'rm -rf "$work"' EXIT
+(cd crates/server && rt lib) >"$work/log" 2>&1 || { tail -n 20 "$work/log"; echo 'c/test.sh: no archive'; exit 1; }
+archive=crates/server/out/libserver.a
 
 if command -v nm >/dev/null && command -v size >/dev/null; then
   calls=$(nm -u "$archive" | awk '$1 == "U" { print $2 }' | sort -u | tr '\n' ' ')
@@ -51,16 +42,16 @@ build calls || exit 1
 build why || exit 1
 sanitizer='between guard pages, the C code under an address sanitizer'
 watch=(-g -fsanitize=address,undefined -fno-sanitize-recover=all)
-if ! { build damage "${watch[@]}" && build edges "${watch[@]}" && build reasons "${watch[@]}" && [ "${#run[@]}" = 0 ]; } 2>/dev/null; then
+if ! { build damage "${watch[@]}" && build edges "${watch[@]}" && build reasons "${watch[@]}"; } 2>/dev/null; then
   sanitizer='between guard pages, without a sanitizer: the compiler has none'
   build damage && build edges && build reasons || exit 1
 fi
 
 lessons=0 failed=0 explained=0
 for name in edges reasons; do
-  "${run[@]+"${run[@]}"}" "$work/$name" || { echo "c/test.sh: c/$name.c failed"; failed=$((failed + 1)); }
+  "$work/$name" || { echo "c/test.sh: c/$name.c failed"; failed=$((failed + 1)); }
 done
-if [ "${#run[@]}" = 0 ] && command -v c++ >/dev/null; then
+if command -v c++ >/dev/null; then
   one=(tests/lessons/*.bin)
   c++ -Wall -Wextra -Werror -o "$work/plus" -x c++ c/example.c -x none "$archive" || exit 1
   if ! "$work/plus" <"${one[0]}" | cmp -s - "${one[0]%.bin}.out"; then
@@ -71,16 +62,16 @@ fi
 shopt -s nullglob
 for lesson in tests/lessons/*.bin ${MORE:+"$MORE"/*.bin}; do
   lessons=$((lessons + 1))
-  if ! "${run[@]+"${run[@]}"}" "$work/example" <"$lesson" | cmp -s - "${lesson%.bin}.out"; then
+  if ! "$work/example" <"$lesson" | cmp -s - "${lesson%.bin}.out"; then
     echo "c/test.sh: c/example.c differs from the outside answer on $lesson"
     failed=$((failed + 1))
   fi
-  "${run[@]+"${run[@]}"}" "$work/calls" <"$lesson" || { echo "c/test.sh: c/calls.c failed on $lesson"; failed=$((failed + 1)); }
+  "$work/calls" <"$lesson" || { echo "c/test.sh: c/calls.c failed on $lesson"; failed=$((failed + 1)); }
 done
 [ "$lessons" -gt 0 ] || { echo 'c/test.sh: no lessons'; exit 1; }
 for right in tests/*/*.why ${MORE:+"$MORE"/*.why}; do
   explained=$((explained + 1))
-  if ! "${run[@]+"${run[@]}"}" "$work/why" <"${right%.why}.bin" | cmp -s - "$right"; then
+  if ! "$work/why" <"${right%.why}.bin" | cmp -s - "$right"; then
     echo "c/test.sh: c/why.c gives other reasons than $right"
     failed=$((failed + 1))
   fi
@@ -91,7 +82,7 @@ damaged=0
 for lesson in tests/lessons/*.bin; do
   damaged=$((damaged + 1))
   [ $((damaged % ${EVERY:-10})) = 1 ] || [ "${EVERY:-10}" = 1 ] || continue
-  if ! "${run[@]+"${run[@]}"}" "$work/damage" <"$lesson" >"$work/said" 2>&1; then
+  if ! "$work/damage" <"$lesson" >"$work/said" 2>&1; then
     tail -n 20 "$work/said"
     echo "c/test.sh: c/damage.c failed on $lesson"
     failed=$((failed + 1))

@@ -56,9 +56,9 @@
  * checksum, and do not count the messages: keep these beside it. Refusal 11 finds bytes that no series can have, not one series damaged into
  * another. To try a stored state without a message, hand over one of length 0: the answer is 11, or 1 for a sound series, and nothing changes.
  *
- * The archive: `rt staticlib server`, in the repository's first folder, proves it and writes target/staticlib/libserver.a, for x86-64 Linux;
- * `cc -o example c/example.c target/staticlib/libserver.a` links it, and a shared library can take it in. It allocates nothing, keeps nothing
- * between calls, does no input or output, and calls nothing but memcpy, memmove and memset. It is compiled without sanitizers: a memory
+ * The archive: `rt lib`, in the folder crates/server, proves it and writes out/libserver.a there, for x86-64 Linux; in the repository's first
+ * folder `cc -o example c/example.c crates/server/out/libserver.a` links it, and a shared library can take it in. It allocates nothing, keeps
+ * nothing between calls, does no input or output, and calls nothing but memcpy, memmove and memset. It is compiled without sanitizers: a memory
  * sanitizer does not see what it writes, so fill the buffers first if you use one.
  *
  * What no header can promise is the caller's to see to:

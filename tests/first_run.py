@@ -17,45 +17,58 @@ import tempfile
 from cases import ROOT, expect, finish, read
 from front_door import WORDS, door, not_done, path_without
 
-CRATES = "# three crates are proved for the program\nfirst:\nsecond: first\nother: first\nsession: first second os io\n"
+CRATES = "# three crates are proved for the program\nfirst:\nsecond: first\nother: first\nsession: first second csv clap\n"
 PROVING = "waxglimmer: proving and building the session program; the first time this takes some minutes"
-# A kit that says what it is asked, takes its time, says a line in two parts, and would eat what it is given to read.
+# A kit that notes what it is asked and where, takes its time, says a line in two parts (on standard error where it also runs
+# the program), and would eat what it is given to read.
 KIT = """#!/bin/sh
-echo "$*" >>"$0.calls"
-[ "$1" = check ] || exit 1
+crate=$(basename "$PWD")
+echo "$1 $crate" >>"$0.calls"
+case $1 in lib) exec 3>&1 ;; run) exec 3>&1 >&2 ;; *) exit 1 ;; esac
 cat
-printf 'rt: first proved (1 s)\\nlogic=proved first\\nrt: sec'
-sleep %s
-echo 'ond proved (unchanged since it was last proved)'
+printf 'rt: chose --jobs 2 for %%s\\nfn %%s' $crate $crate
+[ $crate != second ] || sleep %s
+printf '::all: proved\\nlogic=proved functions=1\\n'
+case $1 in
+lib)
 %s
+;;
+run)
+%s
+;;
+esac
 """
 # How it ends: with a program that says how it was called and counts what it reads (and stays as it is where it is
-# there already), without one, with crates that fail.
-BUILT = """mkdir -p target/bin
-[ -x target/bin/session ] && exit 0
-printf '#!/bin/sh\\necho "played $*" $(wc -c)\\n' >target/bin/session.$$
-chmod +x target/bin/session.$$ && mv target/bin/session.$$ target/bin/session
-printf 'rt: session proved (2 s)\\nrt: ok, 3 crates proved\\n'"""
+# there already), which is also run, without one, with crates that fail.
+BUILT = """mkdir -p out
+if [ ! -x out/session ]; then
+  printf '#!/bin/sh\\necho "played $*" $(wc -c)\\n' >out/session.$$
+  chmod +x out/session.$$ && mv out/session.$$ out/session
+fi
+echo 'rt: running out/session'
+out/session >&3"""
 NOT_WHOLE = "true"
 BROKEN = """for line in $(seq 30); do echo "wrong $line"; done
 exit 1"""
+PROGRAM = "crates/session/out/session"
 DATA = bytes(4) + b"a message.." * 3
 
 
 class Copy:
     """A copy of what ./waxglimmer needs, in a folder with a blank in its name, and a kit beside it."""
 
-    def __init__(self, name, end=BUILT, pause="0.1"):
+    def __init__(self, name, end=BUILT, pause="0.1", below="true"):
         self.root = os.path.join(os.getcwd(), name)
         os.makedirs(os.path.join(self.root, ".ci"))
-        os.makedirs(os.path.join(self.root, "crates", "session"))
+        for crate in ("first", "second", "session"):
+            os.makedirs(os.path.join(self.root, "crates", crate))
         for place in ("waxglimmer", ".ci/kit"):
             shutil.copy(os.path.join(ROOT, place), os.path.join(self.root, place))
         shutil.copytree(os.path.join(ROOT, "teach"), os.path.join(self.root, "teach"))
         self.write("crates.txt", CRATES)
         self.write("crates/session/main.rt", "")
         os.makedirs(os.path.join(self.root, "kit"))
-        self.write("kit/rt", KIT % (pause, end))
+        self.write("kit/rt", KIT % (pause, below, end))
         os.chmod(self.path("kit/rt"), 0o755)
         self.script = self.path("waxglimmer")
         self.env = {**os.environ, "PATH": self.path("kit") + ":" + os.environ["PATH"]}
@@ -70,10 +83,14 @@ class Copy:
     def run(self, *arguments, **how):
         return door(*arguments, script=self.script, **{"env": self.env, "stdin": DATA, **how})
 
+    def calls(self):
+        """What the kit was asked to prove and to build, in order."""
+        calls = read(self.path("kit/rt.calls")) if os.path.exists(self.path("kit/rt.calls")) else ""
+        return [call for call in calls.splitlines() if call.split()[0] != "doc"]
+
     def checks(self):
         """How often it was built."""
-        calls = read(self.path("kit/rt.calls")) if os.path.exists(self.path("kit/rt.calls")) else ""
-        return calls.split("\n").count("check session")
+        return self.calls().count("run session")
 
 
 def try_progress():
@@ -86,12 +103,16 @@ def try_progress():
     expect("the first run", (status, out, copy.checks()), (0, "played  37\n", 1))
     first, *lines = re.sub(r", \d+ min \d+ s$", ", so long", err, flags=re.M).splitlines()
     expect("how far it is", (first, lines), (PROVING, ["waxglimmer: %d of 3 crates proved, so long" % done for done in (1, 2, 3)]))
+    expect("what is proved for it, lowest first", copy.calls(), ["lib first", "lib second", "run session"])
+    os.makedirs(copy.path("crates/first/out"))
+    copy.write("crates/first/out/kept", "what rt keeps of a crate is nothing that the program is made of")
+    os.utime(copy.path("crates/first/out/kept"), (2e9, 2e9))
     expect("the second run", (copy.run("run"), copy.checks()), ((0, "played  37\n", ""), 1))
     for view in ("book", "why"):
         expect("a view of the program", copy.run("session", view), (0, "played %s 37\n" % view, ""))
     expect("why", copy.run("why"), (0, "played why 37\n", ""))
-    expect("nothing is left behind", sorted(os.listdir(copy.root)), [".ci", "crates", "crates.txt", "kit", "target", "teach", "waxglimmer"])
-    os.utime(copy.path("target/bin/session"), (1e9, 1e9))
+    expect("nothing is left behind", sorted(os.listdir(copy.root)), [".ci", "crates", "crates.txt", "kit", "teach", "waxglimmer"])
+    os.utime(copy.path(PROGRAM), (1e9, 1e9))
     for case in ("a run after a change", "a run after that"):
         expect(case, (copy.run("run")[:2], copy.checks()), ((0, "played  37\n"), 2))
 
@@ -125,12 +146,17 @@ def try_failures():
     expect("a build that fails", (status, out, lines[-21:-1]), (1, "", ["wrong %d" % line for line in range(11, 31)]))
     expect("a build that fails, why", lines[-1], "waxglimmer: the session program was not built; all that the build said"
            " is in " + copy.path("target-build.log"))
-    expect("what the build said", read(copy.path("target-build.log")).splitlines()[:3],
-           ["rt: first proved (1 s)", "logic=proved first", "rt: second proved (unchanged since it was last proved)"])
+    expect("what the build said", read(copy.path("target-build.log")).splitlines()[:5],
+           ["rt: chose --jobs 2 for first", "fn first::all: proved", "logic=proved functions=1", "== first proved",
+            "rt: chose --jobs 2 for second"])
+    copy = Copy("broken below", below=BROKEN)
+    status, out, err = copy.run("run")
+    expect("a crate below that fails", (status, out, err.splitlines()[-21:-1], copy.calls()),
+           (1, "", ["wrong %d" % line for line in range(11, 31)], ["lib first"]))
     copy = Copy("not whole", NOT_WHOLE)
     status, out, err = copy.run("run")
     expect("a folder that is not whole", (status, out, err.splitlines()[-1]),
-           (1, "", "waxglimmer: the folder %s is not whole; remove it and run this again" % copy.path("target")))
+           (1, "", "waxglimmer: the folder %s is not whole; remove it and run this again" % copy.path("crates/session/out")))
 
 
 def try_no_kit():
@@ -154,9 +180,11 @@ def try_endings():
     copy.run("run")
     for ending, reason in (("exit 3", "waxglimmer: the session program ended with status 3"), ("kill -9 $$", "ended with status 137"),
                            ("echo session: standard input >&2; exit 0", "session: standard input")):
-        copy.write("target/bin/session", "#!/bin/sh\n%s\n" % ending)
+        copy.write(PROGRAM, "#!/bin/sh\n%s\n" % ending)
         for command in ("run", "why", "tell"):
             not_done(reason, command, script=copy.script, stdin=DATA, env=copy.env)
+    copy.write(PROGRAM, "#!/bin/sh\necho 'session: standard output: Broken pipe (os error 32)' >&2\n")
+    expect("a reader that is gone is no mistake", copy.run("run"), (0, "", ""))
 
 
 def try_two_at_once():

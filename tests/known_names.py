@@ -12,7 +12,7 @@ from collections import defaultdict
 from pathlib import Path
 
 ROOT = Path(__file__).resolve().parent.parent
-LEFT_OUT = {".git", "target", "__pycache__"}
+LEFT_OUT = {".git", "target", "out", "__pycache__"}
 
 RT_ITEM = re.compile(r"^\s*(?:pub(?:\(crate\))? )?(?:struct|enum|const|mod) (\w+)", re.M)
 RT_FUNCTION = re.compile(r'^\s*(pub |pub\(crate\) |)(?:extern "C" )?fn (\w+)', re.M)
@@ -21,8 +21,10 @@ RT_FIELD = {"struct": re.compile(r"^    (?:pub(?:\(crate\))? )?(\w+):", re.M),
             "enum": re.compile(r"^    (\w+)", re.M)}
 ANTT_HELD = re.compile(r"(?:(?:pub|abbrev|unfoldable) )*(module|record|data) (\S+)")
 ANTT_SIGNED = re.compile(r"(?:(?:pub|abbrev|unfoldable) )*([^\s:(){}]+(?: [^\s:(){}]+)*) :(?:\s|$)")
-ANTT_USE = re.compile(r"^(?:ghost )?use ([\w·.-]+)\.\{([^}]*)\}", re.M)
-TIE_USE = re.compile(r"\b(tie)\.([\w-]+)|(?<= )(\.[a-z][\w-]*)")      # places of a proof, and what is read there
+ANTT_USE = re.compile(r"^(?:ghost )?use ([\w.-]+)\.\{([^}]*)\}", re.M)
+OWN_MODULE = re.compile(r"Rattle\.(?:%s)\." % "|".join(sorted(path.name for path in (ROOT / "crates").iterdir())))
+GOAL_USE = re.compile(r"\b(goal)\.([\w'-]+)|(?<=[\w)'])(\.[a-z][\w'-]*)")      # goals of a proof, and what is read of a step
+STEP_USE = re.compile(r"\bc\.[\w'-]+")                                             # the steps themselves
 C_DEFINED = re.compile(r"^#define (\w+)|^(?!return|else)[A-Za-z_][\w \t*]*?\b(\w+)\(|^(?:typedef )?struct (\w+)", re.M)
 SHELL_COMMAND = re.compile(r"^  (\w+)(?: \| \S+)*\)", re.M)
 
@@ -77,11 +79,11 @@ def antt_names(text):
 
 def kit_names(text):
     """What a file takes from the kit: the prover has seen that it is there."""
-    taken = [names for module, names in ANTT_USE.findall(text) if not module.startswith("Rattle·")]
-    names = {name.strip().strip("_") for names in taken for name in names.split(",")}
-    for tie, place, part in TIE_USE.findall(text):
-        names |= {tie, place, part, part[1:]}
-    return names - {""}
+    taken = [names for module, names in ANTT_USE.findall(text) if not OWN_MODULE.match(module)]
+    names = {name.strip().strip("◌") for names in taken for name in names.split(",")}
+    for goal, place, part in GOAL_USE.findall(text):
+        names |= {goal, place, part, part[1:]}
+    return (names | {"c"} | set(STEP_USE.findall(text))) - {""}
 
 
 def python_names(text):

@@ -29,13 +29,13 @@ def faults_of(name, line):
         return
     if name.endswith(".rt") and NUMBERED.search(line):
         yield "a kind by its number"
-    if name.endswith(".antt") and re.search(r"\browOf\b", line) and name not in OPENED:
+    if name.endswith(".antt") and re.search(r"\brow_of\b", line) and name not in OPENED:
         yield "opens the table of kinds"
 
 
 def files():
     """Rattle and its proofs; the scripts, and the programs in C."""
-    yield from (path for path in ROOT.glob("crates/**/*") if path.suffix in (".rt", ".antt"))
+    yield from (path for path in ROOT.glob("crates/*/*/**/*") if path.suffix in (".rt", ".antt") and path.relative_to(ROOT).parts[2] != "out")
     for folder in ("tests", "teach", "c", "bench", ".ci"):
         yield from (path for path in ROOT.glob(folder + "/*") if path.is_file() and path.suffix in ("", ".py", ".sh", ".awk", ".c", ".h"))
     yield ROOT / "waxglimmer"

@@ -14,8 +14,8 @@
 2. Every public function of crates/*/src has its row in docs/PROMISES.md under its crate, and
    every function of a row there exists.
 
-Left out is docs/changes: a note of a past change names what stood there then, and is not
-written again when that moves.
+Left out are docs/changes and docs/PORT.md: a note of a past change names what stood there then,
+and is not written again when that moves.
 """
 
 import fnmatch
@@ -28,12 +28,11 @@ from known_names import ROOT, Known
 OTHER = {
     "how a definition is read: Rattle's words and signs, which no file imports": """
         abbrev|unfoldable|pub|use|let x = .. in|record { limit = .. }|λ (e : Entry). ..|Type 0|
-        e .limit|cond b x y|suc n|some x|(x, y)|.0|.1|x - y|l ++ k|x ∷ l|×|:|=|A → B|A → ⊥""",
+        e.limit|cond b x y|suc n|some x|(x, y)|.0|.1|x - y|l ++ k|x ∷ l|×|:|=|A → B|A → ⊥""",
     "how contracts and proofs are written: Rattle's words": """
-        requires|ensures|declared|search|search needs|let .. else|result ≡ definition|.before|
-        c .before .before ..|Joined1|.came|At-match-keys1""",
-    "the kit's own: its command, what it prints and where it writes": """
-        rt|axioms=|rattle-kit-5b|target/goals|target/must-fail/CRATE/LABEL/.log""",
+        requires|ensures|declared|pub|let .. else|if|match|result ≡ definition|proofs/MODULE/FUNCTION/Answers.antt""",
+    "the kit's own: its command, its library, its names": """
+        rt|std|axioms=|rattle-kit-5b|rattle-kit-13f logic dac8208d650f15bf""",
     "what a machine has: the C compiler and library, an environment": """
         cc|memmove|read|write|NATIVE=1 bench/run""",
     "words that a document gives a meaning of its own": """
@@ -41,7 +40,7 @@ OTHER = {
 }
 EXPLAINED = {word.strip() for group in OTHER.values() for word in group.split("|")}
 THEOREM = 3             # the column of RULES that names theorems
-RT_COMMANDS = "check ci dev doc fmt goals must-fail staticlib version".split()
+RT_COMMANDS = "check ci doc fmt lib must-fail run tidy version".split()
 
 RUN = r"`[^`]+`(?:(?:, | and )`[^`]+`)*"
 SPAN = re.compile(r"`([^`\n]+)`")
@@ -50,6 +49,7 @@ BESIDE = re.compile(r"`(\w+)` ([A-Z]\w+) (%s)" % RUN)
 BEFORE = re.compile(r"(%s) of `([^`]+)`" % RUN)
 PATH = re.compile(r"(?<![\w/.-])((?:docs|tests|teach|crates|bench|c)/[\w./*-]*\w)")
 COMMAND = re.compile(r"(?:\$ )?((?:python3|rt|cc|bash|\./waxglimmer) .*)")
+MADE = re.compile(r"crates/(\w+)/out/[\w.]+")       # what rt makes of a crate: it is there once that is built
 PLACEHOLDER = re.compile(r"\b(?:CRATE|FILE|LABEL|NAME|STEP|X)\b")
 LABEL = re.compile(r"(?<![\w/:.-])[a-z0-9]+(?:_[a-z0-9]+)+(?![\w/:.])")
 FILE_NAMES = re.compile(r"((?:[a-z_]+/)?[A-Z]\w+) (.+)")
@@ -61,6 +61,8 @@ LESSONS = re.compile(r"\blessons? ((?:[\w]+(?:-[\w]+)+(?: \([^)]*\))?(?:, )?)+)"
 def is_path(known, name):
     """A file or folder, from the root, from crates/ or by its own name; CRATE and the like stand for any."""
     wanted = PLACEHOLDER.sub("*", name.rstrip("/")).removeprefix("./")
+    if MADE.fullmatch(wanted):
+        return MADE.fullmatch(wanted).group(1) in known.crates
     if "/" not in wanted:
         return any(fnmatch.fnmatchcase(file, wanted) for file in known.files) \
             or name.startswith(".") and any(file.endswith(name) for file in known.files)
@@ -288,7 +290,7 @@ class Promises:
 # ---------------------------------------------------------------- everything
 
 def documents():
-    return [ROOT / "README.md"] + sorted(ROOT.glob("*/README.md")) + sorted(ROOT.glob("docs/*.md"))
+    return [ROOT / "README.md"] + sorted(ROOT.glob("*/README.md")) + sorted(path for path in ROOT.glob("docs/*.md") if path.name != "PORT.md")
 
 
 def main():
