@@ -58,7 +58,7 @@ import sys
 import tempfile
 from pathlib import Path
 
-from wrong_edits import HEAD, HERE, ROOT, Failure, apply, below, body_of, calls_of, edits_of, listed, must_fail_edits_of, named, sources, too_few
+from wrong_edits import HERE, ROOT, Failure, apply, below, calls_of, edits_of, functions_in, listed, must_fail_edits_of, named, sources, too_few
 
 LOGS = ROOT / "target/wrong"
 # The same folder in each run, since `rt` notes where crates were checked.
@@ -174,7 +174,7 @@ def heard(place, said):
     for file, line, goal in re.findall(r"^note: src/(\S+):(\d+):\d+: it is not proved .*?\(`([^`]*)`\)", said, re.M):
         # The line is of the function's code, or its first.
         text = (place.folder / "src" / file).read_text()
-        functions = [name for name in HEAD.findall(text) if text.count("\n", 0, body_of(text, name)[1]) + 1 >= int(line)]
+        functions = [name for name, *_, end in functions_in(text) if text.count("\n", 0, end) + 1 >= int(line)]
         if not functions:
             raise Failure("a note on src/%s:%s, which is of no function" % (file, line))
         errors[named(Path(file), functions[0])].append("%s: not proved" % goal)

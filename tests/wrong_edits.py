@@ -11,7 +11,8 @@ HERE = Path(__file__).resolve().parent
 ROOT = HERE.parent
 # texts: a file, a function or None, and an old and a new text of the function's code, or of the file.
 Edit = collections.namedtuple("Edit", "name functions texts")
-HEAD = re.compile(r'^(?:pub(?:\(crate\))? )?(?:extern "C" )?fn (\w+)', re.M)
+HEAD = re.compile(r'^( *)((?:pub(?:\(crate\))? )?(?:extern "C" )?fn|const(?= \w+: .* = .*;$)) (\w+)', re.M)
+BLOCK = re.compile(r"^impl\b(?:<.*?>)? (?:(\S.*) for )?(\w+).*\{$", re.M)
 
 
 class Failure(Exception):
@@ -40,11 +41,34 @@ def named(path, function):
     return function if path.stem in ("lib", "main") else path.stem + "::" + function
 
 
+def block_of(text, at):
+    """What the prover calls the `impl` that has this place of a file in it: the type, and the trait without its marks."""
+    found = [it for it in BLOCK.finditer(text, 0, at) if at < text.index("\n}\n", it.end())]
+    return found[-1][2] + re.sub(r"\W", "", found[-1][1] or "") if found else ""
+
+
+def functions_in(text):
+    """The functions of a file that have code, in order: the name, whether it is public, where the code begins, behind its contract, and where
+    it ends. To the prover a constant of an `impl` is one of them."""
+    for head in HEAD.finditer(text):
+        margin, word, name = head.groups()
+        block = block_of(text, head.start()) if margin else ""
+        if margin and not block or word == "const" and not margin:
+            continue
+        if word == "const":
+            start, end = head.end(), text.index("\n", head.end())
+        else:
+            start = re.compile(r"^%s(\S.*)?\{$" % margin, re.M).search(text, head.start()).end()
+            end = text.index("\n%s}\n" % margin, start)
+        yield block + "::" * bool(block) + name, word.startswith("pub "), start, end
+
+
 def body_of(text, function):
-    """Where the code of a function begins, behind its contract, whose lines are indented, and ends."""
-    head = re.search(r"^(\S.* )?fn %s\b" % function.split("::")[-1], text, re.M)
-    start = re.compile(r"^(\S.*)?\{$", re.M).search(text, head.start()) if head else None
-    return (start.end(), text.index("\n}\n", start.end())) if start else (0, 0)
+    """Where the code of a function, be it named with its file or not, begins and ends."""
+    for name, _, start, end in functions_in(text):
+        if function == name or function.endswith("::" + name):
+            return start, end
+    return 0, 0
 
 
 def edits_of(crate):
@@ -100,16 +124,15 @@ def bodies_of(crate):
     found = {}
     for path in sorted(sources(crate).glob("src/*.rt")):
         text = path.read_text()
-        found.update({named(path, function): text[slice(*body_of(text, function))] for function in HEAD.findall(text)})
+        found.update({named(path, name): text[start:end] for name, _, start, end in functions_in(text)})
     return found
 
 
 def functions_at(crate, path, text, at):
     """The function that has this place of a file in its code, or those that use the constant that is there, and whether it is code."""
-    functions = [named(path, function) for function in HEAD.findall(text[:at])]
-    start, end = body_of(text, functions[-1]) if functions else (0, 0)
-    if start <= at < end:
-        return functions[-1:], True
+    found = [named(path, name) for name, _, start, end in functions_in(text) if start <= at < end]
+    if found:
+        return found, True
     constant = re.search(r"^(?:pub )?const (\w+)", text[text.rindex("\n", 0, at) + 1 :])
     found = [function for function, body in bodies_of(crate).items() if constant and re.search(r"\b%s\b" % constant[1], body)]
     if not found:
@@ -131,8 +154,8 @@ def too_few(crate, edits):
     """The public functions that have not two edits."""
     counts = collections.Counter(function for edit in edits for function in edit.functions)
     for path in sorted(sources(crate).glob("src/*.rt")):
-        for function in re.findall(r'^pub (?:extern "C" )?fn (\w+)', path.read_text(), re.M):
-            if counts[named(path, function)] < 2:
+        for function, is_public, *_ in functions_in(path.read_text()):
+            if is_public and counts[named(path, function)] < 2:
                 yield "%s has %d edits" % (named(path, function), counts[named(path, function)])
 
 

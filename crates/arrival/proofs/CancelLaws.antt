@@ -14,7 +14,7 @@ use Rattle.packing.specs.Report.{reports}
 use Rattle.packing.proofs.CodecLaws.{packs-fit, fit-packs}
 use Rattle.book.specs.declared.Entry.{Entry}
 use Rattle.book.specs.declared.Book.{Book}
-use Rattle.book.specs.declared.Rank.{Rank}
+use Rattle.std.specs.Prelude.{Option}
 use Rattle.book.specs.Shape.{zero_entry, entries_of, WellFormed}
 use Rattle.book.specs.Entries.{quote_of}
 use Rattle.book.specs.Look.{rank_of, quote_in}
@@ -28,11 +28,11 @@ use Rattle.telling.proofs.StageLaws.{staged-as}
 -- ---- what a search found goes, by its rank ----
 
 module _ (test : Entry → Bool) (key : Entry → ℕ) (b : Book) (w : WellFormed b) where
-  rank-inside : (f : Found Entry) (r : Rank) → Tells test key (entries_of b) f → r ≡ rank_of f → Inside b r
+  rank-inside : (f : Found Entry) (r : Option ℕ) → Tells test key (entries_of b) f → r ≡ rank_of f → Inside b r
   rank-inside nowhere r t e = rw e tt
   rank-inside (found i x) r t e = rw e (record { well = w; inside = omega (arith, at-inside (entries_of b) i x t.there, length-entries b w) })
 
-  pub cut-rank : (why : ℕ) (f : Found Entry) (r : Rank) → Tells test key (entries_of b) f → r ≡ rank_of f
+  pub cut-rank : (why : ℕ) (f : Found Entry) (r : Option ℕ) → Tells test key (entries_of b) f → r ≡ rank_of f
       → cut_rank why (entries_of b) r ≡ cut why (entries_of b) f
   unfolding cut
   cut-rank why nowhere r t e = rw e refl
@@ -43,7 +43,7 @@ module _ (test : Entry → Bool) (key : Entry → ℕ) (b : Book) (w : WellForme
       ) refl
 
   -- what cancelling it asks
-  pub rank-cuts : (why : ℕ) (f : Found Entry) (r : Rank) {room : List ℕ} {n : ℕ} → Tells test key (entries_of b) f → r ≡ rank_of f
+  pub rank-cuts : (why : ℕ) (f : Found Entry) (r : Option ℕ) {room : List ℕ} {n : ℕ} → Tells test key (entries_of b) f → r ≡ rank_of f
       → Roomy room n (cut why (entries_of b) f).records → CutsRank why b r room n
   rank-cuts why f r t e h = record { well = w; inside = rank-inside f r t e; roomy = rw (cut-rank why f r t e) h }
 
@@ -65,7 +65,7 @@ asks-reason why party s {b} why' h a = record { well = a.well; roomy = roomy-rea
 
 -- ---- a maker's quote ----
 
-module _ (why party : ℕ) (s : Bool) {b : Book} {room : List ℕ} {n : ℕ} (r : Rank) (is : r ≡ rank_of (quote_in party s (entries_of b))) where
+module _ (why party : ℕ) (s : Bool) {b : Book} {room : List ℕ} {n : ℕ} (r : Option ℕ) (is : r ≡ rank_of (quote_in party s (entries_of b))) where
   pub quote-cuts : Asks (cut_quote why party s (entries_of b)) b room n → CutsRank why b r room n
   quote-cuts a = rank-cuts (quote_of party s) (λ _. 0) b a.well why (quote_in party s (entries_of b)) r (quote-tells (entries_of b) party s) is a.roomy
 

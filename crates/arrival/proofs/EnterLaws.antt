@@ -39,8 +39,8 @@ use Rattle.telling.specs.Stage.{Roomy, Staged, Put}
 use Rattle.soundness_theory.proofs.MarketFacts.{MarketFacts, market-facts, sound-for}
 use Rattle.terms.specs.declared.Terms.{Terms}
 use Rattle.arrival.specs.declared.Facing.{Facing}
-use Rattle.arrival.specs.declared.take.Next.{Next}
-use Rattle.arrival.specs.declared.take.Next.TheVariants.{Nothing, With}
+use Rattle.std.specs.Prelude.{Option, Some, None, is_some}
+use Rattle.arrival.specs.declared.take.Trade.{Trade}
 use Rattle.terms.specs.Terms.{market_of}
 use Rattle.arrival.specs.Cancel.{Asks, cut_quote}
 use Rattle.arrival.specs.Take.{Taking, bound, offered, next_take, chances, taken, took}
@@ -117,11 +117,6 @@ pub protected-by : {t : Terms} {e : Entry} {f : Facing} {b : Book} → Enters t 
 unfolding protection_for
 protected-by {t} {e} n = ap (λ (best : ℕ). reason_of e.sell (bars_against t e best)) n.faces.national
 
--- whether there is a next trade
-abbrev pub going : Next → Bool
-going Nothing = false
-going (With r) = true
-
 module _ (t : Terms) (e : Entry) (l : List Entry) where
   -- ---- whether it trades ----
 
@@ -129,17 +124,17 @@ module _ (t : Terms) (e : Entry) (l : List Entry) where
   unfolding took still
   trades-none q = rw q refl
 
-  pub trades-now : (k : Market) (cap : ℕ) (next : Next) → minds e.kind ≡ false → k ≡ market_of t → cap ≡ bound k e
-      → next ≡ next_trade cap e (record { left = e.quantity; book = l }) → going next ≡ trades t e l
+  pub trades-now : (k : Market) (cap : ℕ) (next : Option Trade) → minds e.kind ≡ false → k ≡ market_of t → cap ≡ bound k e
+      → next ≡ next_trade cap e (record { left = e.quantity; book = l }) → is_some next ≡ trades t e l
   unfolding took taken still leading
   trades-now k cap next q p w x = rw (q, ← p, ← w) (pick next (next-take cap e from ∙ ap (trade_as e from) (sym x)))
     where
       from : Taking
       from = record { left = e.quantity; book = l }
 
-      pick : (n : Next) → next_take cap e from ≡ trade_as e from n → going n ≡ not (none_traded (ran (next_take cap e) chances from).records)
-      pick Nothing h = ap (λ (y : Ran Taking Report). not (none_traded y.records)) (sym (run-stop (next_take cap e) chances from h))
-      pick (With r) h =
+      pick : (n : Option Trade) → next_take cap e from ≡ trade_as e from n → is_some n ≡ not (none_traded (ran (next_take cap e) chances from).records)
+      pick None h = ap (λ (y : Ran Taking Report). not (none_traded y.records)) (sym (run-stop (next_take cap e) chances from h))
+      pick (Some r) h =
           ap (λ (y : Ran Taking Report). not (none_traded y.records))
           (sym (run-go (next_take cap e) chances (λ _. Unit {0}) (take-falls cap e) from (traded e r.entry r.quantity) _ tt h))
 
@@ -156,18 +151,6 @@ module _ (t : Terms) (e : Entry) (l : List Entry) where
       all_true true b = refl
       all_true false true = refl
       all_true false false = refl
-
-  pub once-order : quote e ≡ false → 0 ≡ stops_at_once t e l
-  unfolding stops_at_once
-  once-order q = rw q
-
-  pub once-trades : quote e ≡ true → none_traded (took (market_of t) e l).records ≡ false → 0 ≡ stops_at_once t e l
-  unfolding stops_at_once
-  once-trades q n = rw (q, n)
-
-  pub once-stops : (r : ℕ) → quote e ≡ true → none_traded (took (market_of t) e l).records ≡ true → r ≡ stop_for t e l → r ≡ stops_at_once t e l
-  unfolding stops_at_once
-  once-stops r q n s = s ∙ rw (q, n) refl
 
   -- ---- why it is rejected ----
 
@@ -297,9 +280,6 @@ module _ (why : ℕ) (e : Entry) (left : ℕ) {b : Book} {room : List ℕ} {n : 
   says : s ≡ cancelled why (with_quantity left e)
   says = tells ∙ ap (cancelled why) is
 
-  pub cancel-room : Roomy room n (s ∷ [])
-  cancel-room = first-room (cancelled why (with_quantity left e)) s (entries_of b) other_goes says a.roomy
-
   module _ {room' : List ℕ} {n' : ℕ} (p : Put room n s room' n') where
     first-told : Staged (reported (cancelled why (with_quantity left e)) (entries_of b)) room n b room' n'
     first-told = told-staged (cancelled why (with_quantity left e)) s says a.well p
@@ -327,41 +307,6 @@ module _ (t : Terms) (e : Entry) where
   finished-none zero why l q = refl
   finished-none (suc left) why l q = absurd (omega arith)
 
-  pub finished-posts : (left why : ℕ) (l : List Entry) → (left ≡ 0 → ⊥) → why ≡ 0 → posted t e left l ≡ finished t e left why l
-  finished-posts zero why l n q = absurd (n refl)
-  finished-posts (suc left) zero l n q = refl
-  finished-posts (suc left) (suc why) l n q = absurd (omega arith)
-
-  pub finished-cancels : (left why : ℕ) (l : List Entry) → (left ≡ 0 → ⊥) → (why ≡ 0 → ⊥) → cancelled_rest why e left l ≡ finished t e left why l
-  finished-cancels zero why l n q = absurd (n refl)
-  finished-cancels (suc left) zero l n q = absurd (q refl)
-  finished-cancels (suc left) (suc why) l n q = refl
-
 module _ {t : Terms} {e : Entry} {c : ℕ} {b : Book} {left : ℕ} {room : List ℕ} {n : ℕ} (a : Finishes t e c b left room n) where
   pub finish-none : left ≡ 0 → Staged (finished t e left (stop_for t e (entries_of b)) (entries_of b)) room n b room n
   finish-none q = staged-as (finished-none t e left (stop_for t e (entries_of b)) (entries_of b) q) (staged-none b room n a.posts.well)
-
-  module _ (why : ℕ) (is : why ≡ stop_for t e (entries_of b)) (some : left ≡ 0 → ⊥) where
-    same_end : finished t e left why (entries_of b) ≡ finished t e left (stop_for t e (entries_of b)) (entries_of b)
-    same_end = ap (λ (w : ℕ). finished t e left w (entries_of b)) is
-
-    pub finish-rests : why ≡ 0 → Rests t e c b left room n
-    finish-rests z = record {
-      posts = a.posts;
-      space = a.space;
-      roomy = roomy-as (ap (λ (x : Ran (List Entry) Report). x.records) (sym (finished-posts t e left why (entries_of b) some z ∙ same_end))) a.roomy;
-    }
-
-    pub finish-posted : {d : Book} {room' : List ℕ} {n' : ℕ} → why ≡ 0 → Staged (posted t e left (entries_of b)) room n d room' n'
-        → Staged (finished t e left (stop_for t e (entries_of b)) (entries_of b)) room n d room' n'
-    finish-posted z x = staged-as (finished-posts t e left why (entries_of b) some z ∙ same_end) x
-
-    pub finish-cancels : (why ≡ 0 → ⊥) → Asks (cancelled_rest why e left (entries_of b)) b room n
-    finish-cancels z = record {
-      well = a.posts.well;
-      roomy = roomy-as (ap (λ (x : Ran (List Entry) Report). x.records) (sym (finished-cancels t e left why (entries_of b) some z ∙ same_end))) a.roomy;
-    }
-
-    pub finish-cancelled : {d : Book} {room' : List ℕ} {n' : ℕ} → (why ≡ 0 → ⊥) → Staged (cancelled_rest why e left (entries_of b)) room n d room' n'
-        → Staged (finished t e left (stop_for t e (entries_of b)) (entries_of b)) room n d room' n'
-    finish-cancelled z x = staged-as (finished-cancels t e left why (entries_of b) some z ∙ same_end) x

@@ -7,7 +7,7 @@ use lib.ListN.{get_or}
 use Rattle.lists.specs.Tests.{count}
 use Rattle.lists.specs.Choose.{found}
 use Rattle.book.specs.declared.Book.{Book}
-use Rattle.book.specs.declared.Rank.TheVariants as rank
+use Rattle.std.specs.Prelude.{Some, None}
 use Rattle.book.specs.Look.{rank_of, lowest}
 use Rattle.book.specs.Shape.{zero_entry, entries_of}
 use Rattle.book.proofs.LookLaws.{lowest-tells, number}
@@ -25,11 +25,11 @@ unfolding sweep
 sweep-start phase a = loop-start a.well tt a.roomy
 
 module _ (phase : ℕ) {b₀ b : Book} {room₀ room : List ℕ} {n₀ n : ℕ} (v : SweepLoop phase b₀ room₀ n₀ b room n) where
-  pub sweep-end : rank.Nowhere ≡ rank_of (lowest (swept phase) (entries_of b)) → Staged (sweep phase (entries_of b₀)) room₀ n₀ b room n
+  pub sweep-end : None ≡ rank_of (lowest (swept phase) (entries_of b)) → Staged (sweep phase (entries_of b₀)) room₀ n₀ b room n
   unfolding sweep next_sweep
   sweep-end e = loop-done v (ap (sweep_at (entries_of b)) (rank-none (lowest (swept phase) (entries_of b)) e))
 
-  module _ (i : ℕ) (e : rank.At i ≡ rank_of (lowest (swept phase) (entries_of b))) where
+  module _ (i : ℕ) (e : Some i ≡ rank_of (lowest (swept phase) (entries_of b))) where
     ranked : Ranked (entries_of b) (lowest (swept phase) (entries_of b)) i
     ranked = rank-at (swept phase) number (entries_of b) (lowest (swept phase) (entries_of b)) i (lowest-tells (entries_of b) (swept phase)) e
 

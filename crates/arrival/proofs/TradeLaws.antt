@@ -21,8 +21,7 @@ use Rattle.telling.specs.Tell.{traded}
 use Rattle.telling.specs.Stage.{Roomy}
 use Rattle.book.specs.Look.{best_contra}
 use Rattle.arrival.specs.declared.take.Trade.{Trade}
-use Rattle.arrival.specs.declared.take.Next.{Next}
-use Rattle.arrival.specs.declared.take.Next.TheVariants.{Nothing, With}
+use Rattle.std.specs.Prelude.{Option, Some, None}
 use Rattle.arrival.specs.Take.{Taking, shown_only, trade_with, take_at, next_take, chances, taken}
 use Rattle.arrival.specs.Asks.{Takes, TookAs, taking_of, trade_if, trade_at, next_trade, trade_as}
 use Rattle.book.proofs.RankLaws.{Ranked}
@@ -46,11 +45,11 @@ module _ (cap : ℕ) (e : Entry) (t : Taking) where
       at (found j y) = pick j y (not (eqb t.left 0) && reaches e.sell cap y.working)
 
   -- a trade is with an entry of the book, for no more than is left
-  abbrev Within : Next → Type 0
-  Within Nothing = Unit {0}
-  Within (With x) = (x.at < length t.book) × (x.quantity ≤ t.left)
+  abbrev Within : Option Trade → Type 0
+  Within None = Unit {0}
+  Within (Some x) = (x.at < length t.book) × (x.quantity ≤ t.left)
 
-  pub trade-within : (x : Trade) → With x ≡ next_trade cap e t → Within (With x)
+  pub trade-within : (x : Trade) → Some x ≡ next_trade cap e t → Within (Some x)
   unfolding next_trade
   trade-within x h = subst Within (sym h) (at (best_contra e.sell (shown_only e) t.book) (contra-tells e.sell (shown_only e) t.book))
     where
@@ -63,13 +62,13 @@ module _ (cap : ℕ) (e : Entry) (t : Taking) where
       at (found j y) c = pick j y (at-inside t.book j y c.chosen.there) (not (eqb t.left 0) && reaches e.sell cap y.working)
 
   -- nobody to trade with
-  pub no-contra-left : best_contra e.sell (shown_only e) t.book ≡ nowhere → Nothing ≡ next_trade cap e t
+  pub no-contra-left : best_contra e.sell (shown_only e) t.book ≡ nowhere → None ≡ next_trade cap e t
   unfolding next_trade
   no-contra-left b = rw b refl
 
   module _ (i : ℕ) (b : Ranked t.book (best_contra e.sell (shown_only e) t.book) i) where
     -- nothing is left, or the best is beyond the bound
-    pub out-of-bound : (eqb t.left 0 || not (reaches e.sell cap (get_or t.book i zero_entry).working)) ≡ true → Nothing ≡ next_trade cap e t
+    pub out-of-bound : (eqb t.left 0 || not (reaches e.sell cap (get_or t.book i zero_entry).working)) ≡ true → None ≡ next_trade cap e t
     unfolding next_trade
     out-of-bound h = rw (b.is, apart (eqb t.left 0) (reaches e.sell cap (get_or t.book i zero_entry).working) h) refl
       where
@@ -81,7 +80,7 @@ module _ (cap : ℕ) (e : Entry) (t : Taking) where
     -- the trade
     pub in-bound : (y : Entry) (q : ℕ) → y ≡ get_or t.book i zero_entry → q ≡ min t.left y.quantity
         → (eqb t.left 0 || not (reaches e.sell cap y.working)) ≡ false
-        → With (record { at = i; entry = y; quantity = q }) ≡ next_trade cap e t
+        → Some (record { at = i; entry = y; quantity = q }) ≡ next_trade cap e t
     unfolding next_trade
     in-bound y q s w h = rw (b.is, ← s, both (eqb t.left 0) (reaches e.sell cap y.working) h, w) refl
       where
@@ -104,7 +103,7 @@ take-start cap e left b room n t = record { well = t.well; going = going_start t
 
 module _ {cap : ℕ} {e : Entry} {left₀ : ℕ} {b₀ : Book} {room₀ : List ℕ} {n₀ left : ℕ} {b : Book} {room : List ℕ} {n : ℕ}
     (v : TakingOn cap e left₀ b₀ room₀ n₀ left b room n) where
-  pub take_done : Nothing ≡ next_trade cap e (taking_of left b) → TookAs (taken cap e (taking_of left₀ b₀)) room₀ n₀ b left room n
+  pub take_done : None ≡ next_trade cap e (taking_of left b) → TookAs (taken cap e (taking_of left₀ b₀)) room₀ n₀ b left room n
   unfolding taken
   take_done h =
       let stops : next_take cap e (taking_of left b) ≡ stop = next-take cap e (taking_of left b) ∙ ap (trade_as e (taking_of left b)) (sym h) in
@@ -117,7 +116,7 @@ module _ {cap : ℕ} {e : Entry} {left₀ : ℕ} {b₀ : Book} {room₀ : List �
         count = z.count;
       }
 
-  module _ (x : Trade) (h : With x ≡ next_trade cap e (taking_of left b)) where
+  module _ (x : Trade) (h : Some x ≡ next_trade cap e (taking_of left b)) where
     goes : next_take cap e (taking_of left b)
         ≡ go (traded e x.entry x.quantity) (record { left = left - x.quantity; book = hit x.at x.quantity (entries_of b) })
     goes = next-take cap e (taking_of left b) ∙ ap (trade_as e (taking_of left b)) (sym h)

@@ -1,7 +1,7 @@
 -- What the handler has seen to before a quote or an order arrives: the tests of its refusals, and the soundness of the series.
 -- No rule of document 01 stands here, only words for contracts.
 -- Assumes nothing.
-use Rattle.std.specs.Prelude.{ℕ, ◌+◌, ◌-◌, ◌≤◌, ◌<◌, min, ◌≡◌, Bool, true, false, not, ◌&&◌, List, eqb, length}
+use Rattle.std.specs.Prelude.{ℕ, Option, Some, None, ◌+◌, ◌-◌, ◌≤◌, ◌<◌, min, ◌≡◌, Bool, true, false, not, ◌&&◌, List, eqb, length}
 use Rattle.kinds.specs.Kinds.{enters}
 use Rattle.prices.specs.Step.{legal}
 use Rattle.prices.specs.Side.{reaches, away}
@@ -24,8 +24,7 @@ use Rattle.terms.specs.declared.Terms.{Terms}
 use Rattle.terms.specs.Terms.{market_of}
 use Rattle.arrival.specs.Take.{Taking, shown_only, took}
 use Rattle.arrival.specs.Post.{stop_for, Posts}
-use Rattle.arrival.specs.declared.take.Next.{Next}
-use Rattle.arrival.specs.declared.take.Next.TheVariants.{Nothing, With}
+use Rattle.arrival.specs.declared.take.Trade.{Trade}
 use Rattle.arrival.specs.declared.Facing.{Facing}
 use Rattle.arrival.specs.Arrive.{replaced, book_left, posted, finished, none_traded, entered, arrived}
 
@@ -63,22 +62,22 @@ abbrev pub taking_of : ℕ → Book → Taking
 taking_of left b = record { left = left; book = entries_of b }
 
 -- THE NEXT TRADE, as code answers it: the place of the best contra entry, the entry, and for how many contracts; or nothing
-abbrev pub trade_if : Taking → ℕ → Entry → Bool → Next
-trade_if t j y false = Nothing
-trade_if t j y true = With (record { at = j; entry = y; quantity = min t.left y.quantity })
+abbrev pub trade_if : Taking → ℕ → Entry → Bool → Option Trade
+trade_if t j y false = None
+trade_if t j y true = Some (record { at = j; entry = y; quantity = min t.left y.quantity })
 
-abbrev pub trade_at : ℕ → Entry → Taking → Found Entry → Next
-trade_at cap e t nowhere = Nothing
+abbrev pub trade_at : ℕ → Entry → Taking → Found Entry → Option Trade
+trade_at cap e t nowhere = None
 trade_at cap e t (found j y) = trade_if t j y (not (eqb t.left 0) && reaches e.sell cap y.working)
 
-unfoldable pub next_trade : ℕ → Entry → Taking → Next
+unfoldable pub next_trade : ℕ → Entry → Taking → Option Trade
 next_trade cap e t = trade_at cap e t (best_contra e.sell (shown_only e) t.book)
 
 -- what each case of the answer is in the rule (`next_take` is just that, by `next-take` of proofs/TradeLaws): nothing ends it, and a trade is told by its
 -- report and leaves so much
-abbrev pub trade_as : Entry → Taking → Next → Step Taking Report
-trade_as e t Nothing = stop
-trade_as e t (With x) = go (traded e x.entry x.quantity) (record { left = t.left - x.quantity; book = hit x.at x.quantity t.book })
+abbrev pub trade_as : Entry → Taking → Option Trade → Step Taking Report
+trade_as e t None = stop
+trade_as e t (Some x) = go (traded e x.entry x.quantity) (record { left = t.left - x.quantity; book = hit x.at x.quantity t.book })
 
 -- ---- an arrival, in its parts ----
 

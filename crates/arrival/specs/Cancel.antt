@@ -1,6 +1,6 @@
 -- Cancelling: an entry goes, with a report of its own.
 -- Assumes nothing.
-use Rattle.std.specs.Prelude.{ℕ, Bool, true, false, cond, List, [], ◌∷◌, eqb, get_or}
+use Rattle.std.specs.Prelude.{ℕ, Option, Some, None, Bool, true, false, cond, List, [], ◌∷◌, eqb, get_or}
 use Rattle.lists.specs.Places.{without}
 use Rattle.lists.specs.Tests.{count}
 use Rattle.lists.specs.Choose.{Found, nowhere, found}
@@ -9,8 +9,6 @@ use Rattle.packing.specs.declared.report.Report.{Report}
 use Rattle.book.specs.declared.Entry.{Entry}
 use Rattle.book.specs.Entries.{quote}
 use Rattle.book.specs.declared.Book.{Book}
-use Rattle.book.specs.declared.Rank.{Rank}
-use Rattle.book.specs.declared.Rank.TheVariants.{At, Nowhere}
 use Rattle.book.specs.Shape.{zero_entry, entries_of, WellFormed, Place}
 use Rattle.book.specs.Look.{entry_of, quote_in, lowest}
 use Rattle.telling.specs.Tell.{cancelled}
@@ -26,13 +24,13 @@ abbrev pub cut_at : ℕ → List Entry → ℕ → Ran (List Entry) Report
 cut_at why l i = record { final = without i l; records = cancelled why (get_or l i zero_entry) ∷ [] }
 
 -- what stands at a rank goes; nothing happens where there is none
-abbrev pub cut_rank : ℕ → List Entry → Rank → Ran (List Entry) Report
-cut_rank why l Nowhere = still l
-cut_rank why l (At i) = cut_at why l i
+abbrev pub cut_rank : ℕ → List Entry → Option ℕ → Ran (List Entry) Report
+cut_rank why l None = still l
+cut_rank why l (Some i) = cut_at why l i
 
-abbrev pub Inside : Book → Rank → Type 0
-Inside b Nowhere = Unit {0}
-Inside b (At i) = Place b i
+abbrev pub Inside : Book → Option ℕ → Type 0
+Inside b None = Unit {0}
+Inside b (Some i) = Place b i
 
 -- what the functions ask of their callers: a well-formed book, with room for the stage's reports; and for `cut_at` a place that is used
 pub record Asks (x : Ran (List Entry) Report) (b : Book) (room : List ℕ) (n : ℕ) : Type 0 where
@@ -43,7 +41,7 @@ pub record Cuts (why : ℕ) (b : Book) (i : ℕ) (room : List ℕ) (n : ℕ) : T
   pub place : Place b i
   pub roomy : Roomy room n (cut_at why (entries_of b) i).records
 
-pub record CutsRank (why : ℕ) (b : Book) (rank : Rank) (room : List ℕ) (n : ℕ) : Type 0 where
+pub record CutsRank (why : ℕ) (b : Book) (rank : Option ℕ) (room : List ℕ) (n : ℕ) : Type 0 where
   pub well : WellFormed b
   pub inside : Inside b rank
   pub roomy : Roomy room n (cut_rank why (entries_of b) rank).records

@@ -1,6 +1,7 @@
 -- "What is left posts, unless, first that applies: 20, .. 21, .. 23, .. 22".
 -- Assumes nothing.
 use Rattle.std.specs.Prelude.{ℕ, ◌≡◌, true, cond, List}
+use Rattle.prices.specs.declared.Posting.{Posting}
 use Rattle.prices.specs.declared.Prices.{Prices}
 use Rattle.prices.specs.Side.{away}
 use Rattle.kinds.specs.Kinds.{sliding, minds, dark, light}
@@ -36,6 +37,10 @@ as_posted e left p = with_quantity left (with_prices p.working (pricing_of e.kin
 -- the best price at which undisplayed interest works against it, 0 for none: asked for an MMLO alone
 abbrev pub hidden_for : Entry → List Entry → ℕ
 hidden_for e l = cond (light e.kind) (best_hidden e.sell l) 0
+
+-- what is left, as it would rest in this book with display d
+abbrev pub posting_of : Terms → Entry → List Entry → ℕ → Posting
+posting_of t e l d = record { m = t.m; k = t.k; away = away (market_of t) e.sell; hidden = hidden_for e l; display = d }
 
 -- the tests put to what is left, in the book in which it would post
 abbrev pub stops_in : Terms → Entry → List Entry → List Test

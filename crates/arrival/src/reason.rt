@@ -6,13 +6,13 @@ ghost use Rattle.arrival.specs.Arrive.{tests_against};
 ghost use Rattle.arrival.specs.Asks.{Measures};
 
 use crate::Facing;
-use crate::post::{hidden_for, prices_of};
+use crate::post::{posting_of, prices_of};
+use book::entries::interest_of;
 use book::{Book, Entry};
 use prices::Figures;
 use prices::post::stop_figures;
 use prices::protect::bar_figures;
-use prices::side::away_of;
-use terms::{Terms, guard_of, market_of};
+use terms::{Terms, guard_of};
 
 // The two figures that a rule's test of an arriving entry compares, where it would post in this book; two zeros for a rule that is no test.
 pub fn figures_for(rule: u32, b: Book, t: Terms, e: Entry, f: Facing) -> Figures
@@ -23,7 +23,5 @@ pub fn figures_for(rule: u32, b: Book, t: Terms, e: Entry, f: Facing) -> Figures
         return bar_figures(rule, guard_of(t), e.sell, f.national, e.limit);
     }
     let p = prices_of(t, e, f.contra);
-    let hidden = hidden_for(b, e);
-    let away = away_of(market_of(t), e.sell);
-    stop_figures(rule, t.m, t.k, e.sell, e.limit, away, hidden, p.display)
+    stop_figures(rule, interest_of(e), posting_of(b, t, e, p.display))
 }

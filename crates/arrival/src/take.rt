@@ -1,18 +1,19 @@
 // Trades on arrival.
 ghost use Rattle.std.specs.Prelude.{◌≡◌};
 ghost use Rattle.book.specs.Shape.{WellFormed};
+ghost use Rattle.telling.specs.Lent.{SameRoom};
 ghost use Rattle.arrival.specs.Take.{bound, shown_only, offered, taken};
 ghost use Rattle.arrival.specs.Asks.{Takes, TookAs, taking_of, next_trade};
 
-use book::change::{lesser, taken as hit_at};
+use book::change::taken as hit_at;
 use book::entries::kind_of;
 use book::look::best_contra;
-use book::{Book, Entry, Rank};
+use book::{Book, Entry};
 use kinds::is_light;
 use prices::Market;
 use prices::aims::held_to;
 use prices::side::{away_of, is_reaching};
-use telling::room::put;
+use telling::room::Reports;
 use telling::tell::tell_traded;
 
 // The lesser of the limit and the away price: no trade goes beyond it.
@@ -36,35 +37,25 @@ pub fn is_offered(sell: bool, cap: u32, price: u32) -> bool
 }
 
 // A trade to come: with the entry at a place, for so many contracts.
-#[derive(Clone, Copy)]
+#[derive(Clone, Copy, PartialEq, Eq, Debug)]
 pub struct Trade {
     pub at: usize,
     pub entry: Entry,
     pub quantity: u32,
 }
 
-// The next trade, or none.
-#[derive(Clone, Copy)]
-pub enum Next {
-    Nothing,
-    With(Trade),
-}
-
 // The next trade of a taker with so much left.
-pub fn next_trade(b: Book, e: Entry, cap: u32, left: u32) -> Next
+pub fn next_trade(b: Book, e: Entry, cap: u32, left: u32) -> Option<Trade>
     requires { WellFormed b }
     ensures { result ≡ next_trade cap e (taking_of left b) }
 {
-    let best = best_contra(b, e.sell, is_shown_only(e));
-    let Rank::At(at) = best else {
-        return Next::Nothing;
-    };
+    let at = best_contra(b, e.sell, is_shown_only(e))?;
     let entry = b.entries[at];
     if (left == 0) | !is_reaching(e.sell, cap, entry.working) {
-        return Next::Nothing;
+        return None;
     }
-    let quantity = lesser(left, entry.quantity);
-    Next::With(Trade {
+    let quantity = left.min(entry.quantity);
+    Some(Trade {
         at,
         entry,
         quantity,
@@ -72,20 +63,17 @@ pub fn next_trade(b: Book, e: Entry, cap: u32, left: u32) -> Next
 }
 
 // Takes the best, again and again, as far as the bound reaches and something is left.
-pub fn take_all(b: Book, e: Entry, cap: u32, left: &mut u32, room: &mut [u8], n: &mut usize) -> Book
-    requires { Takes (taken cap e (taking_of left.old b)) b room.old n.old }
-    ensures { TookAs (taken cap e (taking_of left.old b)) room.old n.old result left.new room.new n.new }
+pub fn take_all(b: Book, e: Entry, cap: u32, left: &mut u32, reports: &mut Reports) -> Book
+    requires { Takes (taken cap e (taking_of left.old b)) b reports.old.room.now reports.old.count }
+    ensures told { TookAs (taken cap e (taking_of left.old b)) reports.old.room.now reports.old.count result left.new reports.new.room.now reports.new.count }
+    ensures same_room { SameRoom reports.old reports.new }
 {
     let mut c = b;
-    loop {
-        let found = next_trade(c, e, cap, *left);
-        let Next::With(next) = found else {
-            return c;
-        };
+    while let Some(next) = next_trade(c, e, cap, *left) {
         let y = next.entry;
-        let report = tell_traded(e, y, next.quantity);
-        put(room, n, report);
+        reports.tell(tell_traded(e, y, next.quantity));
         c = hit_at(c, next.at, next.quantity);
-        *left = *left - next.quantity;
+        *left -= next.quantity;
     }
+    c
 }

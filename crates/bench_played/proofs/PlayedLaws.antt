@@ -3,13 +3,16 @@ use Prim.Native.Nat.{ℕ, zero, suc, ◌+◌, ◌-◌, ◌≤◌, ◌<◌}
 use mathlib.Core.Path.{◌≡◌, refl, sym, ap, ◌∙◌}
 use mathlib.Core.Bool.{Bool, true, false, ◌&&◌}
 use mathlib.Core.List.{List, ◌++◌, append-nil}
-use mathlib.Core.Option.{Option, none, some}
+use Rattle.std.specs.Prelude.{Option, None, Some}
 use native.Mathlib.Omega.{arith}
 use lib.Dec.{leb}
 use lib.ListN.{length, drop, take, length-drop, drop_of_length-le}
 use lib.Seq.{take_all}
 use borrow.Author.Tests.{le-leb, lt-leb, leb-true}
-use Rattle.lists.proofs.Bools.{and_left, and_right}
+use Rattle.std.specs.Prelude.{Result, Ok, Err, is_ok}
+use Rattle.std.specs.Result.{result_unwrap_or}
+use Rattle.kinds.specs.declared.refusal.Refusal.{Refusal}
+use Rattle.lists.proofs.Bools.{clash, and_left, and_right}
 use Rattle.packing.specs.declared.setup.Setup.{Setup}
 use Rattle.packing.specs.Room.{room_size}
 use Rattle.packing.specs.Message.{message_size}
@@ -86,13 +89,13 @@ pub lent : (s : Series) (run : List ℕ) (at : ℕ) (out : List ℕ) (used : ℕ
 lent s run at out used h = ap (handled_at s run at) (take_all (length out - used) (drop used out) (rw length-drop (omega arith)))
 
 -- a setup that is refused, and one that is not
-pub plays-nothing : (u : Option Setup) (run out : List ℕ) → ((opened u).refusal ≡ 0 → ⊥) → (0 ≡ (played_by u run out).0) × (out ≡ (played_by u run out).1)
-plays-nothing none run out h = (refl, refl)
-plays-nothing (some s) run out h = absurd (h refl)
+pub plays-nothing : (u : Option Setup) (why : Refusal) (run out : List ℕ) → opened u ≡ Err why → (0 ≡ (played_by u run out).0) × (out ≡ (played_by u run out).1)
+plays-nothing None why run out h = (refl, refl)
+plays-nothing (Some x) why run out h = clash refl (ap is_ok h)
 
-pub plays-series : (u : Option Setup) (run out : List ℕ) → (opened u).refusal ≡ 0 → played (opened u).series run out ≡ played_by u run out
-plays-series none run out h = absurd (let z : ◌≡◌ {A = ℕ} 1 0 = h in omega arith)
-plays-series (some s) run out h = refl
+pub plays-series : (u : Option Setup) (s : Series) (run out : List ℕ) → opened u ≡ Ok s → played s run out ≡ played_by u run out
+plays-series None s run out h = clash (ap is_ok h) refl
+plays-series (Some x) s run out h = sym (ap (λ (r : Result Series Refusal). played (result_unwrap_or r s) run out) h)
 
 pub le-rw : {m n k : ℕ} → m ≡ n → n ≤ k → m ≤ k
 le-rw e h = omega arith

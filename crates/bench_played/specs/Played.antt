@@ -1,6 +1,6 @@
 -- A run of messages played one after the other into one lent room: what is measured. No rule of document 01 stands here.
 use Rattle.std.specs.Prelude.{ℕ, zero, suc, ◌+◌, ◌*◌, Bool, cond, ◌&&◌, List, ◌++◌, ◌≡◌, leb, length, take, drop}
-use Rattle.std.proofs.Math.Option.{Option, none, some}
+use Rattle.std.specs.Prelude.{Option, None, Some}
 use Rattle.packing.specs.declared.setup.Setup.{Setup}
 use Rattle.packing.specs.Codec.{unpack_of}
 use Rattle.packing.specs.Setup.{setups}
@@ -43,8 +43,8 @@ unfoldable pub played : Series → List ℕ → List ℕ → ℕ × List ℕ
 played s run out = played_on (length run) s run 0 out 0
 
 abbrev pub played_by : Option Setup → List ℕ → List ℕ → ℕ × List ℕ
-played_by none run out = (0, out)
-played_by (some s) run out = played (new_series s) run out
+played_by None run out = (0, out)
+played_by (Some s) run out = played (new_series s) run out
 
 abbrev pub played_from : List ℕ → List ℕ → List ℕ → ℕ × List ℕ
 played_from setup run out = played_by (unpack_of setups setup) run out

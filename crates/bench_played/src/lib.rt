@@ -45,12 +45,14 @@ fn turn(series: Series, run: &[u8], at: usize, out: &mut [u8], used: usize) -> N
     ensures { Turned series run.now at out.old used result.series result.used out.new }
 {
     let size = out.len();
-    let answer = handle_at(series, run, at, &mut out[used..]);
-    let end = end_of(used, answer.count, size);
-    let after = answer.series;
-    Next {
-        series: after,
-        used: end,
+    match handle_at(series, run, at, &mut out[used..]) {
+        Ok(answer) => {
+            Next {
+                series: answer.series,
+                used: end_of(used, answer.count, size),
+            }
+        }
+        Err(_) => Next { series, used },
     }
 }
 
@@ -77,10 +79,8 @@ pub extern "C" fn waxglimmer_play(setup: &[u8], run: &[u8], out: &mut [u8]) -> u
     ensures { (result ≡ (played_from setup.now run.now out.old).0)
         × (out.new ≡ (played_from setup.now run.now out.old).1) }
 {
-    let made = open_series(setup);
-    if made.refusal != 0 {
+    let Ok(series) = open_series(setup) else {
         return 0;
-    }
-    let series = made.series;
+    };
     play(series, run, out)
 }

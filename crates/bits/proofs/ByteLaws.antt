@@ -1,14 +1,14 @@
 -- Numbers that bytes make: what the reader and the writer of packed bytes cite.
 use Prim.Native.Nat.{ℕ, zero, suc, ◌+◌, ◌*◌, ◌/◌, ◌-◌, ◌%◌, ◌^◌, ◌<◌, ◌≤◌}
 use mathlib.Core.List.{List, [], ◌∷◌, ◌++◌}
-use mathlib.Core.Path.{◌≡◌, refl, ap}
-use lib.ListN.{length, get_or, take, drop, replicate-append-replicate, length-replicate}
-use lib.Seq.{get_or-drop}
+use mathlib.Core.Path.{◌≡◌, refl, ap, ◌∙◌}
+use lib.ListN.{length, get_or, take, drop, length-drop, replicate-append-replicate, length-replicate}
+use lib.Seq.{get_or-drop, length-take-le}
 use lib.Pow.{pow_pos, pow-add, pow-lt, high, low, shr-shr, mod-mod-pow, field}
 use native.Mathlib.Nat.{not-suc-le-zero, le_of_suc-le-suc, mod-eq_of_lt, one-mul}
 use native.Mathlib.Omega.{arith}
 use lib.Arith.{digits_lt}
-use Rattle.bits.specs.Fields.{total, join, bytes, Bytes, Fit}
+use Rattle.bits.specs.Fields.{total, join, bytes, value, Bytes, Fit}
 
 pub total-bytes : (n : ℕ) → total (bytes n) ≡ 8 * n
 total-bytes zero = refl
@@ -63,6 +63,11 @@ pub join-take : (n : ℕ) (s : List ℕ) → join (bytes n) (take n s) ≡ join 
 join-take zero s = refl
 join-take (suc n) [] = refl
 join-take (suc n) (x ∷ s) = ap (λ (z : ℕ). x * 2 ^ total (bytes n) + z) (join-take n s)
+
+-- the number of some bytes in the middle
+pub value-part : (s : List ℕ) (start n : ℕ) → start + n ≤ length s → value (take n (drop start s)) ≡ join (bytes n) (drop start s)
+value-part s start n h =
+    ap (λ (k : ℕ). join (bytes k) (take n (drop start s))) (length-take-le n (drop start s) (rw length-drop (omega arith))) ∙ join-take n (drop start s)
 
 -- n + k bytes as a number: the first n make its upper part, the last k its lower part
 module _ (n k : ℕ) (s : List ℕ) (fits : n + k ≤ length s) (h : Bytes s) where

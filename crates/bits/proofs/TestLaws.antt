@@ -1,14 +1,13 @@
 -- The tests of rows of fields, and what they say.
-use Prim.Native.Nat.{ℕ, suc, ◌^◌, ◌<◌}
+use Prim.Native.Nat.{ℕ, ◌^◌}
 use mathlib.Core.Bool.{Bool, true, false, ◌&&◌}
 use mathlib.Core.List.{List, [], ◌∷◌}
 use mathlib.Core.Path.{◌≡◌, refl, ap₂}
 use native.Mathlib.Omega.{arith}
 use lib.Dec.{eqb, ltb}
-use lib.ListN.{length, get_or, drop}
-use lib.Seq.{drop-cons}
+use lib.ListN.{length}
 use borrow.Author.Tests.{eqb-true, eq-eqb, ltb-true, lt-ltb}
-use Rattle.bits.specs.Fields.{Fit, all_fit, equal}
+use Rattle.bits.specs.Fields.{Fit, Narrow, all_fit, equal}
 
 -- a test of two parts; crate lists, which has these laws as `and_left` and `and_right`, is not among those that this one stands on
 pub both_left : (a b : Bool) → (a && b) ≡ true → a ≡ true
@@ -47,11 +46,8 @@ fit-all_fit (w ∷ ws) (x ∷ xs) h = ap₂ ◌&&◌ (lt-ltb x (2 ^ w) h.0) (fit
 fit-all_fit [] (x ∷ xs) h = elim h [ ]
 fit-all_fit (w ∷ ws) [] h = elim h [ ]
 
--- one field of each row more, as the loops go
-pub equal-step : (a b : List ℕ) (i : ℕ) → i < length a → i < length b
-    → equal (drop i a) (drop i b) ≡ (eqb (get_or a i 0) (get_or b i 0) && equal (drop (suc i) a) (drop (suc i) b))
-equal-step a b i h k = ap₂ equal (drop-cons a i 0 h) (drop-cons b i 0 k)
-
-pub all_fit-step : (ws xs : List ℕ) (j : ℕ) → j < length ws → j < length xs
-    → all_fit (drop j ws) (drop j xs) ≡ (ltb (get_or xs j 0) (2 ^ get_or ws j 0) && all_fit (drop (suc j) ws) (drop (suc j) xs))
-all_fit-step ws xs j h k = ap₂ all_fit (drop-cons ws j 0 h) (drop-cons xs j 0 k)
+-- whether all fit, told by the fields ys of widths us that are left
+pub record Fitting (ws xs us ys : List ℕ) : Type 0 where
+  pub narrow : Narrow us
+  pub long : length ys ≡ length us
+  pub same : all_fit ws xs ≡ all_fit us ys

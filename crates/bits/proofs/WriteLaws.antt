@@ -9,10 +9,8 @@ use native.Mathlib.Nat.{mod-lt, mod-eq_of_lt, div-add-mod, add-mul-mod_self_left
 use native.Mathlib.Nat.{sub-zero, mul-le-mul_right, le_refl, le-pred_of_lt, div-add-mod'}
 use lib.Dec.{lit<}
 use native.Mathlib.Omega.{arith}
-use native.Mathlib.Numerals.{add-one}
-use Rattle.bits.specs.Fields.{total, join, split, Fit, Bytes, value, bytes}
+use Rattle.bits.specs.Fields.{total, join, split, Fit, Bytes, Narrow, value, bytes}
 use Rattle.bits.proofs.ByteLaws.{bytes_lt, total-bytes, fit-bytes}
-use Rattle.bits.proofs.ReadLaws.{total-drop}
 use Rattle.bits.proofs.FieldLaws.{split-unique, split-mod}
 
 bytes-set : (s : List ℕ) (i v : ℕ) → Bytes s → v < 256 → Bytes (set s i v)
@@ -88,58 +86,56 @@ shift-done s₀ w x s carry h =
     let e : carry * 2 ^ (8 * length s₀) + value s ≡ value s₀ * 2 ^ w + x = omega (arith, rw sub-zero at h.sum) in
     rw (← e) (sym (low carry (8 * length s₀) l))
 
--- j fields are moved into out, which was out₀, and what then stands there, moved by the others, will be the whole
-pub record Writing (ws xs out₀ out : List ℕ) (j : ℕ) : Type 0 where
+-- some fields are moved into out, which was out₀, and what then stands there, moved by the others, ys of widths us, will be the whole
+pub record Writing (ws xs out₀ out us ys : List ℕ) : Type 0 where
   pub same : length out ≡ length out₀
-  pub within : j ≤ length ws
   pub ok : Bytes out
   pub small : value out < 2 ^ (8 * length out₀)
-  pub rest : (value out * 2 ^ total (drop j ws) + join (drop j ws) (drop j xs)) % 2 ^ (8 * length out₀)
-      ≡ (value out₀ * 2 ^ total ws + join ws xs) % 2 ^ (8 * length out₀)
+  pub narrow : Narrow us
+  pub long : length ys ≡ length us
+  pub rest : (value out * 2 ^ total us + join us ys) % 2 ^ (8 * length out₀) ≡ (value out₀ * 2 ^ total ws + join ws xs) % 2 ^ (8 * length out₀)
 
 mod-shift : (a p k m : ℕ) → (a % m * p + k) % m ≡ (a * p + k) % m
 mod-shift a p k m =
     let e : a * p + k ≡ a % m * p + k + m * (a / m * p) = omega (arith, ap (λ (z : ℕ). z * p) (div-add-mod a m)) in
     rw (e, add-mul-mod_self_left)
 
-pub writing_start : (ws xs out : List ℕ) → Bytes out → Writing ws xs out out 0
-writing_start ws xs out b =
+pub writing_start : (ws xs out : List ℕ) → Bytes out → Narrow ws → length xs ≡ length ws → Writing ws xs out out ws xs
+writing_start ws xs out b n l =
     record {
       same = refl;
-      within = omega arith;
       ok = b;
       small = rw (← (total-bytes (length out))) (bytes_lt (length out) out b);
+      narrow = n;
+      long = l;
       rest = refl;
     }
 
-pub writing_step : (ws xs out₀ out out' : List ℕ) (j : ℕ) → Writing ws xs out₀ out j → j < length ws → length xs ≡ length ws
+pub writing_step : (ws xs out₀ out out' : List ℕ) (w x : ℕ) (us ys : List ℕ) → Writing ws xs out₀ out (w ∷ us) (x ∷ ys)
     → length out' ≡ length out
-    → value out' ≡ (value out * 2 ^ get_or ws j 0 + get_or xs j 0) % 2 ^ (8 * length out)
+    → value out' ≡ (value out * 2 ^ w + x) % 2 ^ (8 * length out)
     → Bytes out'
-    → Writing ws xs out₀ out' (j + 1)
-writing_step ws xs out₀ out out' j h k l s e b =
+    → Writing ws xs out₀ out' us ys
+writing_step ws xs out₀ out out' w x us ys h s e b =
     let m : ℕ = 2 ^ (8 * length out₀) in
-    let w : ℕ = get_or ws j 0 in
-    let x : ℕ = get_or xs j 0 in
-    let t : ℕ = total (drop (suc j) ws) in
-    let r : ℕ = join (drop (suc j) ws) (drop (suc j) xs) in
     let e' : value out' ≡ (value out * 2 ^ w + x) % m = e ∙ ap (λ (n : ℕ). (value out * 2 ^ w + x) % 2 ^ (8 * n)) h.same in
-    let a : join (drop j ws) (drop j xs) ≡ x * 2 ^ t + r = ap₂ join (drop-cons ws j 0 k) (drop-cons xs j 0 (omega (arith, l))) in
-    let q : value out * 2 ^ total (drop j ws) + join (drop j ws) (drop j xs) ≡ (value out * 2 ^ w + x) * 2 ^ t + r =
-    rw (a, total-drop ws j k, pow-add) (omega arith) in
+    let q : value out * 2 ^ (w + total us) + (x * 2 ^ total us + join us ys) ≡ (value out * 2 ^ w + x) * 2 ^ total us + join us ys =
+    rw pow-add (omega arith) in
     record {
       same = s ∙ h.same;
-      within = omega arith;
       ok = b;
       small = rw e' (mod-lt (value out * 2 ^ w + x) (pow_pos (8 * length out₀)));
-      rest = rw (add-one, e', mod-shift, ← q) h.rest;
+      narrow = h.narrow.1;
+      long = omega (arith, h.long);
+      rest = rw (e', mod-shift, ← q) h.rest;
     }
 
-pub writing-done : (ws xs out₀ out : List ℕ) → Writing ws xs out₀ out (length ws)
+pub writing-done : (ws xs out₀ out us ys : List ℕ) → Writing ws xs out₀ out us ys → length us ≡ 0
     → value out ≡ (value out₀ * 2 ^ total ws + join ws xs) % 2 ^ (8 * length out₀)
-writing-done ws xs out₀ out h =
+writing-done ws xs out₀ out [] ys h z =
     let e : value out * 1 + 0 ≡ value out = omega arith in
-    sym (mod-eq_of_lt h.small) ∙ ap (λ (v : ℕ). v % 2 ^ (8 * length out₀)) (sym e) ∙ rw drop-length at h.rest
+    sym (mod-eq_of_lt h.small) ∙ ap (λ (v : ℕ). v % 2 ^ (8 * length out₀)) (sym e) ∙ h.rest
+writing-done ws xs out₀ out (u ∷ us) ys h z = absurd (omega (arith, z))
 
 -- what was written is the bytes of the fields' number, whatever stood there before
 pub written : (ws xs out : List ℕ) (n v : ℕ) → length out ≡ n → Bytes out → total ws ≡ 8 * n

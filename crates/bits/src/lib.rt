@@ -5,12 +5,3 @@
 pub mod reader;
 pub mod tests;
 pub mod writer;
-
-ghost use Rattle.std.specs.Prelude.{◌≡◌, ◌<◌};
-
-// A byte as a number that sums and products have room in.
-fn wide(x: u8) -> u64
-    ensures { (result ≡ x) × (result < 256) }
-{
-    x as u64
-}

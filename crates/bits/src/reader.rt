@@ -1,17 +1,15 @@
 // Fields out of bytes.
-ghost use Rattle.std.specs.Prelude.{◌≡◌, ◌≤◌, ◌<◌, ◌+◌, ◌-◌, ◌*◌, ◌/◌, ◌%◌, ◌^◌, length, drop};
-ghost use Rattle.bits.specs.Fields.{total, join, split, bytes, Narrow};
+ghost use Rattle.std.specs.Prelude.{◌≡◌, ◌≤◌, ◌<◌, ◌+◌, ◌-◌, ◌*◌, ◌/◌, ◌%◌, ◌^◌, length};
+ghost use Rattle.bits.specs.Fields.{total, join, split, bytes, value, Narrow};
 
-// The number that the n bytes from `at` on make, most significant first.
-fn load(s: &[u8], at: usize, n: usize) -> u64
-    requires { (n ≤ 8) × (at + n ≤ length s.now) }
-    ensures { result ≡ join (bytes n) (drop at s.now) }
+// The number that bytes make, most significant first.
+fn load(part: &[u8]) -> u64
+    requires { length part.now ≤ 8 }
+    ensures { result ≡ value part.now }
 {
     let mut acc: u64 = 0;
-    let mut i = 0;
-    while i < n {
-        acc = acc * 256 + crate::wide(s[at + i]);
-        i += 1;
+    for byte in part {
+        acc = acc * 256 + u64::from(*byte);
     }
     acc
 }
@@ -20,7 +18,7 @@ fn load(s: &[u8], at: usize, n: usize) -> u64
 fn back(end: usize) -> usize
     ensures { result ≡ end - 5 }
 {
-    if end < 5 { 0 } else { end - 5 }
+    end.saturating_sub(5)
 }
 
 // The field of w bits that has `after` bits behind it in the first n bytes.
@@ -30,9 +28,8 @@ fn field(s: &[u8], n: usize, after: usize, w: usize) -> u32
 {
     let end = n - after / 8;
     let start = back(end);
-    let v = load(s, start, end - start);
-    let r = ((v >> (after % 8)) % (1 << w)) as u32;
-    r
+    let v = load(&s[start..end]);
+    ((v >> (after % 8)) % (1 << w)) as u32
 }
 
 // Reads the fields of the widths ws out of the first n bytes of s. What stands behind those bytes is not looked at.
@@ -41,11 +38,9 @@ pub fn read_all(s: &[u8], n: usize, ws: &[u8], xs: &mut [u32])
     ensures { xs.new ≡ split ws.now (join (bytes n) s.now) }
 {
     let mut after = 8 * n;
-    let mut j = 0;
-    while j < ws.len() {
-        let w = ws[j] as usize;
+    for (j, width) in ws.iter().enumerate() {
+        let w = usize::from(*width);
         after -= w;
         xs[j] = field(s, n, after, w);
-        j += 1;
     }
 }

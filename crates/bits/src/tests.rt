@@ -2,17 +2,15 @@
 ghost use Rattle.std.specs.Prelude.{◌≡◌, length};
 ghost use Rattle.bits.specs.Fields.{Narrow, all_fit, equal};
 
-// Whether two rows of fields are the same.
+// Whether two rows of fields are the same. Not by `==`, which calls a function for each field.
 pub fn same(a: &[u32], b: &[u32]) -> bool
     requires { length a.now ≡ length b.now }
     ensures { result ≡ equal a.now b.now }
 {
-    let mut i = 0;
-    while i < a.len() {
-        if a[i] != b[i] {
+    for (x, y) in a.iter().zip(b) {
+        if *x != *y {
             return false;
         }
-        i += 1;
     }
     true
 }
@@ -22,15 +20,11 @@ pub fn fits(ws: &[u8], xs: &[u32]) -> bool
     requires { Narrow ws.now × (length xs.now ≡ length ws.now) }
     ensures { result ≡ all_fit ws.now xs.now }
 {
-    let mut j = 0;
-    while j < ws.len() {
-        let w = ws[j] as usize;
-        let bound: u64 = 1 << w;
-        let x = xs[j] as u64;
-        if bound <= x {
+    for (w, x) in ws.iter().zip(xs) {
+        let bound: u64 = 1 << *w;
+        if bound <= u64::from(*x) {
             return false;
         }
-        j += 1;
     }
     true
 }

@@ -8,11 +8,9 @@ fn put(out: &mut [u8], w: usize, x: u32)
     ensures { (value out.new ≡ (value out.old * 2 ^ w + x) % 2 ^ (8 * length out.old)) × Bytes out.new }
 {
     let m: u64 = 1 << w;
-    let mut carry: u64 = x as u64;
-    let mut i = out.len();
-    while 0 < i {
-        i -= 1;
-        let t = crate::wide(out[i]) * m + carry;
+    let mut carry = u64::from(x);
+    for i in (0..out.len()).rev() {
+        let t = u64::from(out[i]) * m + carry;
         out[i] = (t % 256) as u8;
         carry = t / 256;
     }
@@ -23,10 +21,7 @@ pub fn write_all(out: &mut [u8], ws: &[u8], xs: &[u32])
     requires { (total ws.now ≡ 8 * length out.old) × Narrow ws.now × (length xs.now ≡ length ws.now) }
     ensures { out.new ≡ split (bytes (length out.old)) (join ws.now xs.now) }
 {
-    let mut j = 0;
-    while j < ws.len() {
-        let w = ws[j] as usize;
-        put(out, w, xs[j]);
-        j += 1;
+    for (w, x) in ws.iter().zip(xs) {
+        put(out, usize::from(*w), *x);
     }
 }

@@ -1,14 +1,14 @@
 -- The lines of a book, one by one, and how long they are.
 -- Assumes nothing.
 use Prim.Native.Nat.{ℕ, ◌+◌, ◌*◌, ◌^◌, ◌≤◌, ◌<◌}
-use mathlib.Core.List.{List, [], ◌++◌}
+use mathlib.Core.List.{List, [], ◌∷◌, ◌++◌}
 use mathlib.Core.Bool.{true, false}
 use mathlib.Core.Path.{◌≡◌, sym, ap, ◌∙◌}
 use native.Mathlib.Omega.{arith}
 use borrow.Author.Tests.{leb-true}
-use lib.ListN.{length, take, drop, get_or}
-use lib.Seq.{length-take-le}
-use Rattle.lists.proofs.LoopLaws.{next-left, none_left}
+use lib.ListN.{length, drop, get_or, drop_of_length-le}
+use lib.Seq.{drop-cons, length-take-le}
+use native.Mathlib.Numerals.{add-one}
 use Rattle.book.specs.declared.Book.{Book}
 use Rattle.book.specs.declared.Entry.{Entry}
 use Rattle.book.specs.Shape.{entries_of}
@@ -31,18 +31,20 @@ module _ (number : ℕ) (e : Entry) {fields : List ℕ} {place : ℕ} (is : fiel
 
 -- ---- line by line ----
 
-module _ (number : ℕ) (es : List Entry) (n : ℕ) where
+module _ (number : ℕ) (all : List Entry) where
   -- the lines that are left from rank i on
   abbrev pub left_from : ℕ → List ℕ
-  left_from i = entry_lines number (take n es) i (drop i (take n es))
+  left_from i = entry_lines number all i (drop i all)
 
-  pub next-line : (i : ℕ) (d : Entry) → n ≤ length es → i < n → left_from i ≡ line_at number (take n es) i (get_or es i d) ++ left_from (i + 1)
+  pub next-line : (i : ℕ) (d : Entry) → i < length all → left_from i ≡ line_at number all i (get_or all i d) ++ left_from (i + 1)
   unfolding entry_lines
-  next-line i d fits h = ap (entry_lines number (take n es) i) (next-left es n i d fits h)
+  next-line i d h =
+      let cut : drop i all ≡ get_or all i d ∷ drop (i + 1) all = rw (add-one i) (drop-cons all i d h) in
+      ap (entry_lines number all i) cut
 
-  pub no_line : (i : ℕ) → n ≤ i → left_from i ≡ []
+  pub no_line : (i : ℕ) → length all ≤ i → left_from i ≡ []
   unfolding entry_lines
-  no_line i h = ap (entry_lines number (take n es) i) (none_left es n i h)
+  no_line i h = ap (entry_lines number all i) (drop_of_length-le all h)
 
 -- ---- the whole ----
 

@@ -1,9 +1,9 @@
 // The book as lines of decimal numbers, put into a lent buffer: one for each entry that rests.
 #![tactic(auto)]
 
-ghost use Rattle.std.specs.Prelude.{◌+◌, ◌*◌, ◌≤◌, ◌<◌, ◌≡◌, cond, length, take, get_or};
+ghost use Rattle.std.specs.Prelude.{◌≤◌, ◌≡◌, cond, length, get_or};
 ghost use Rattle.io.specs.Counts.{IsPrefixLen};
-ghost use Rattle.lines.specs.Buffer.{TextPut, longest_line};
+ghost use Rattle.lines.specs.Buffer.{HasLines, PutsLines};
 ghost use Rattle.book.specs.Shape.{zero_entry, entries_of};
 ghost use Rattle.lines.specs.Lines.{FitWord};
 ghost use Rattle.board.specs.Held.{Resting, RestsAt};
@@ -12,7 +12,8 @@ ghost use Rattle.board.specs.Board.{key, before, place_of, entry_fields, line_at
 use book::entries::{display_of, kind_of, party_of};
 use book::look::priority_of;
 use book::{Book, Entry};
-use lines::line::{is_roomy, put_line};
+use lines::line::is_roomy;
+use lines::text::Text;
 
 // How many places a book has.
 const PLACES: usize = 64;
@@ -37,34 +38,18 @@ fn is_before(older: bool, f: Entry, e: Entry) -> bool
 fn resting(b: Book) -> usize
     ensures { Resting b result }
 {
-    if b.count < PLACES {
-        return b.count;
-    }
-    PLACES
-}
-
-// One more is met: it counts if it trades before e.
-fn count_one(place: u32, older: bool, f: Entry, e: Entry) -> u32
-    requires { place < 64 }
-    ensures { (result ≡ cond (before older f e) (place + 1) place) × (result ≤ place + 1) }
-{
-    if is_before(older, f, e) {
-        return place + 1;
-    }
-    place
+    b.count.min(PLACES)
 }
 
 // The place of the entry of rank i: how many on its side trade before it.
-fn place_of(b: Book, n: usize, i: usize) -> u32
-    requires { RestsAt b n i }
-    ensures { result ≡ place_of (take n b.entries) i (get_or b.entries i zero_entry) }
+fn place_of(all: &[Entry], i: usize) -> u32
+    requires { RestsAt all.now i }
+    ensures { result ≡ place_of all.now i (get_or all.now i zero_entry) }
 {
-    let e = b.entries[i];
-    let mut place: u32 = 0;
-    let mut j = 0usize;
-    while j < n {
-        place = count_one(place, j < i, b.entries[j], e);
-        j += 1;
+    let e = all[i];
+    let mut place = 0u32;
+    for (j, f) in all.iter().enumerate() {
+        place += u32::from(is_before(j < i, *f, e));
     }
     place
 }
@@ -72,7 +57,7 @@ fn place_of(b: Book, n: usize, i: usize) -> u32
 fn side_of(e: Entry) -> u32
     ensures { result ≡ cond e.sell 1 0 }
 {
-    if e.sell { 1 } else { 0 }
+    u32::from(e.sell)
 }
 
 // What a line has of an entry.
@@ -93,28 +78,22 @@ fn fields_of(place: u32, e: Entry) -> [u32; 9]
 }
 
 // The line of the entry of rank i.
-fn put_entry(out: &mut [u8], at: usize, number: u64, b: Book, n: usize, i: usize) -> usize
-    requires { RestsAt b n i × (at + longest_line ≤ length out.old) }
-    ensures text_put { TextPut out.old at (line_at number (take n b.entries) i (get_or b.entries i zero_entry)) out.new result }
-    ensures upper_bound { result ≤ at + longest_line }
+fn put_entry(text: &mut Text, number: u64, all: &[Entry], i: usize)
+    requires { RestsAt all.now i × HasLines text.old 1 }
+    ensures { PutsLines text.old 1 (line_at number all.now i (get_or all.now i zero_entry)) text.new }
 {
-    let place = place_of(b, n, i);
-    let fields = fields_of(place, b.entries[i]);
-    put_line(out, at, number, &fields)
+    let place = place_of(all, i);
+    let fields = fields_of(place, all[i]);
+    text.line(number, &fields);
 }
 
-fn put_entries(out: &mut [u8], at: usize, number: u64, b: Book, n: usize) -> usize
-    requires { Resting b n × (at + longest_line * n ≤ length out.old) }
-    ensures text_put { TextPut out.old at (board_text number (entries_of b)) out.new result }
-    ensures upper_bound { result ≤ length out.new }
+fn put_entries(text: &mut Text, number: u64, all: &[Entry])
+    requires { (length all.now ≤ 64) × HasLines text.old (length all.now) }
+    ensures { PutsLines text.old (length all.now) (board_text number all.now) text.new }
 {
-    let mut end = at;
-    let mut i = 0usize;
-    while i < n {
-        end = put_entry(out, end, number, b, n, i);
-        i += 1;
+    for i in 0..all.len() {
+        put_entry(text, number, all, i);
     }
-    end
 }
 
 // What is printed of a book after message `number`: a line for each entry that rests. Answers where it ends; where the buffer may be too
@@ -128,5 +107,7 @@ pub fn board_lines(out: &mut [u8], at: usize, number: u64, b: Book) -> usize
     if !is_roomy(out.len(), at, n) {
         return 0;
     }
-    put_entries(out, at, number, b, n)
+    let mut text = Text { out, end: at };
+    put_entries(&mut text, number, &b.entries[..n]);
+    text.end
 }

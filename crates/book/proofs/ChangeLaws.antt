@@ -1,18 +1,19 @@
 -- Laws of the book's operations: the array that the code makes is the book that holds the list of the definition, and what that gives the next call.
 -- Assumes nothing.
 use Prim.Native.Nat.{ℕ, zero, suc, ◌+◌, ◌-◌, ◌≤◌, ◌<◌}
-use mathlib.Core.Path.{◌≡◌, refl, sym, ap, ◌∙◌, subst}
+use mathlib.Core.Path.{◌≡◌, refl, sym, ap, ◌∙◌}
 use mathlib.Core.Bool.{Bool, true, false, cond}
 use mathlib.Core.List.{List, [], ◌∷◌, ◌++◌, append_assoc}
 use native.Mathlib.Numerals.{add-one}
+use native.Mathlib.Nat.{sub-zero, suc-sub-suc}
+use borrow.Rule.Slice.PartMut.{mid_of, put_mid}
 use native.Mathlib.Omega.{arith}
 use borrow.Author.Tests.{le-leb, lt-leb}
 use lib.Dec.{leb, ltb}
 use lib.ListN.{length, take, drop, get_or, set, replicate, length-append, length-set, take-append-drop}
-use lib.Seq.{set_split, length-take-le, take-set-lt, drop-set-lt}
+use lib.Seq.{set_split, take-set-lt, drop-set-lt}
 use Rattle.lists.specs.Places.{without, requeue}
-use Rattle.lists.proofs.PlaceLaws.{length-snoc, length_without, without-last, drop-one-more}
-use Rattle.lists.proofs.LoopLaws.{Closing}
+use Rattle.lists.proofs.PlaceLaws.{length-snoc, length_without, drop-one-more}
 use Rattle.book.specs.declared.Entry.{Entry}
 use Rattle.book.specs.declared.Book.{Book}
 use Rattle.book.specs.Entries.{lessened}
@@ -38,25 +39,30 @@ posts b e p =
 
 -- ---- taking out ----
 
-pub requeues : (b : Book) (i j n : ℕ) (es : List Entry) (e : Entry) → Place b i → j ≡ b.count - 1 → n ≡ b.count
-    → Closing i (b.count - 1 + 1) b.entries j es
-    → ◌≡◌ {A = Book} (record { entries = set es (b.count - 1) e; count = n }) (book_of (requeue i e (entries_of b)))
+-- it takes the place of what stands at i of the first n, and these turn by one: it stands last of them
+turned : {A : Type 0} (i n : ℕ) (es : List A) (e : A) → i < n → n ≤ length es
+    → put_mid i (n - i) (set es i e) (drop 1 (mid_of i (n - i) (set es i e)) ++ take 1 (mid_of i (n - i) (set es i e)))
+    ≡ requeue i e (take n es) ++ drop n es
+unfolding without
+turned i zero es e h f = absurd (omega arith)
+turned i (suc n) [] e h f = absurd (omega arith)
+turned zero (suc n) (x ∷ l) e h f = rw sub-zero refl
+turned {A} (suc i) (suc n) (x ∷ l) e h f = rw suc-sub-suc (ap (λ (r : List A). x ∷ r) (turned i n l e (omega arith) (omega arith)))
+
+pub requeues : (b : Book) (i : ℕ) (e : Entry) (ys : List Entry) → Place b i
+    → ys ≡ drop 1 (mid_of i (b.count - i) (set b.entries i e)) ++ take 1 (mid_of i (b.count - i) (set b.entries i e))
+    → ◌≡◌ {A = Book} (record { entries = put_mid i (b.count - i) (set b.entries i e) ys; count = b.count }) (book_of (requeue i e (entries_of b)))
 unfolding book_of entries_of
-requeues b i j n es e p there kept s' =
+requeues b i e ys p h =
     let w : WellFormed b = p.well in
-    let last : ℕ = b.count - 1 in
-    let some : b.count - 1 + 1 ≡ b.count = omega (arith, p.inside) in
-    let s : Closing i b.count b.entries j es = rw some at s' in
-    let fits : length es ≡ 64 = s.places ∙ w.places in
-    let inside : last < length es = omega (arith, w.few, p.inside) in
-    let next : suc last ≡ b.count = omega (arith, p.inside) in
-    let front : without i (take b.count b.entries) ≡ take last es =
-    sym s.list ∙ rw there (subst (λ (n : ℕ). without last (take n es) ≡ take last es) some (without-last es last (omega (arith, w.few)))) in
-    let long : length (take last es) ≡ last = length-take-le last es (omega arith) in
-    let size : length (take last es ++ (e ∷ [])) ≡ b.count = length-snoc (take last es) e ∙ rw long next in
+    let long : length (take b.count b.entries) ≡ b.count = length-entries b w in
+    let size : length (requeue i e (take b.count b.entries)) ≡ b.count =
+    let l = take b.count b.entries in
+    omega (arith, long, p.inside, length-snoc (without i l) e, length_without i l (omega (arith, long, p.inside))) in
     same-book
-    (set_split es last e inside ∙ rw (front, size, next, s.rest, w.unused, append_assoc) refl)
-    (kept ∙ rw front (sym size))
+    (ap (put_mid i (b.count - i) (set b.entries i e)) h ∙ turned i b.count b.entries e p.inside (omega (arith, w.few, w.places))
+    ∙ rw (size, w.unused) refl)
+    (sym size)
 
 -- without the zero entry that came last
 pub drops : (b : Book) (l : List Entry) → b ≡ book_of (l ++ (zero_entry ∷ [])) → length l < 64

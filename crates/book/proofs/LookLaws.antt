@@ -1,26 +1,30 @@
 -- What the searches find, with no scan in it: the place is pinned, and nothing else fits.
 -- Assumes nothing.
 use Prim.Native.Nat.{ℕ, ◌+◌, ◌*◌, ◌≤◌, ◌<◌}
-use mathlib.Core.Path.{◌≡◌, refl, ap, ◌∙◌}
-use mathlib.Core.Bool.{Bool, true, false, cond, not, ◌&&◌}
+use mathlib.Core.Path.{◌≡◌, refl, sym, ap, ◌∙◌}
+use mathlib.Core.Bool.{Bool, true, false, cond}
 use mathlib.Core.List.{List, [], ◌∷◌, ◌++◌}
 use mathlib.Core.Logic.{◌⊎◌, inl, inr, ⊎_elim}
 use native.Mathlib.Omega.{arith}
-use lib.Dec.{eqb, ltb}
-use lib.ListN.{length, get_or}
-use borrow.Author.Tests.{lt-ltb, ltb-true, ltb-false, eqb-true}
+use lib.Dec.{ltb}
+use lib.ListN.{length, get_or, take}
+use borrow.Author.Tests.{lt-leb, le-leb, ltb-true, ltb-false}
 use Rattle.prices.specs.Side.{nearer}
 use Rattle.lists.specs.Places.{At}
-use Rattle.lists.specs.Choose.{scan, Found, nowhere, found, keyed}
+use Rattle.lists.specs.Choose.{scan, Found, nowhere, found, consider, choosing, first, lesser, never, keyed}
 use Rattle.lists.proofs.PlaceLaws.{at_left, at_last, at_snoc}
-use Rattle.lists.proofs.ChooseLaws.{scan-says, Nobody, Chosen, Tells, first-tells}
-use Rattle.lists.proofs.LoopLaws.{Held, nothing, something, Lowering, lower-taken, lower-kept}
+use Rattle.lists.proofs.ChooseLaws.{scan-says, Nobody, Chosen, Tells, first-tells, found-stays}
 use Rattle.lists.proofs.Bools.{clash}
 use Rattle.book.specs.declared.Entry.{Entry}
 use Rattle.book.specs.declared.Front.{Front}
 use Rattle.book.specs.declared.Least.{Least}
 use Rattle.book.specs.Entries.{display, displayed, against, own_entry, quote_of}
-use Rattle.book.specs.Look.{no_key, rank_of, rank_held, lower_key, cost, priority, eligible, best_contra, entry_of, quote_in}
+use Rattle.std.specs.Option.{option_map}
+use Rattle.std.specs.List.{fold, position, position_from}
+use Rattle.std.specs.Prelude.{Option, Some, None}
+use Rattle.std.proofs.lemmas.Iterator.Adapters.{position_from-zero}
+use Rattle.lists.proofs.LoopLaws.{scan-more, scan-fold}
+use Rattle.book.specs.Look.{rank_of, lower_key, cost, priority, eligible, best_contra, entry_of, quote_in}
 use Rattle.book.specs.Look.{lowest, working, hidden_price, facing, nearest, contra, best_hidden, front_of, contra_in, front_turn, national}
 use Rattle.book.proofs.OfferLaws.{Best, Alone, best-alone, best-nearer, best-same}
 
@@ -142,26 +146,9 @@ module _ (price : Entry → ℕ) (s : Bool) where
 pub contra-price-tells : (s : Bool) (l : List Entry) → Best s (Offered working s l) (contra s l)
 contra-price-tells s l = nearest-offered working s l
 
--- THE BEST UNDISPLAYED PRICE of the entries that face side s; a turn of the scan for it
+-- THE BEST UNDISPLAYED PRICE of the entries that face side s
 pub hidden-price-tells : (s : Bool) (l : List Entry) → Best s (Offered hidden_price s l) (best_hidden s l)
 hidden-price-tells s l = nearest-offered hidden_price s l
-
-pub hidden-turn-is : (s : Bool) (q : ℕ) (e : Entry) (b : Bool) → (against s e && not (displayed e)) ≡ b
-    → cond b (nearer s q e.working) q ≡ facing hidden_price s q e
-unfolding nearer
-hidden-turn-is s q e b h = by (against s e) (displayed e) b h
-  where
-    none : (z : Bool) → eqb q 0 ≡ z → q ≡ cond z 0 q
-    none true f = eqb-true q 0 f
-    none false f = refl
-
-    by : (a d b : Bool) → (a && not d) ≡ b → cond b (nearer s q e.working) q ≡ cond a (nearer s q (cond d 0 e.working)) q
-    by false d true h = clash h refl
-    by false d false h = refl
-    by true true true h = clash h refl
-    by true true false h = none (eqb q 0) refl
-    by true false true h = refl
-    by true false false h = clash refl h
 
 -- both of the front's prices, by one scan
 front-apart : (front : Front) (j : ℕ) (l : List Entry)
@@ -174,9 +161,13 @@ unfolding scan
 front-apart front j [] = refl
 front-apart front j (x ∷ l) = front-apart (front_turn front x) (j + 1) l
 
-pub front-scanned : (l : List Entry) → scan (λ (f : Front) (_ : ℕ) (e : Entry). front_turn f e) (record { bid = 0; offer = 0 }) 0 l ≡ front_of l
+pub front-folded : (l : List Entry) → fold front_turn (record { bid = 0; offer = 0 }) l ≡ front_of l
 unfolding nearest
-front-scanned l = front-apart (record { bid = 0; offer = 0 }) 0 l
+front-folded l = sym (scan-fold front_turn (record { bid = 0; offer = 0 }) 0 l) ∙ front-apart (record { bid = 0; offer = 0 }) 0 l
+
+pub hidden-folded : (s : Bool) (l : List Entry) → fold (facing hidden_price s) 0 l ≡ best_hidden s l
+unfolding nearest
+hidden-folded s l = sym (scan-fold (facing hidden_price s) 0 0 l)
 
 -- it shows each side C
 pub front-faces : (front : Front) (l : List Entry) → front ≡ front_of l → (s : Bool) → contra_in front s ≡ contra s l
@@ -215,20 +206,52 @@ number e = e.number
 abbrev pub First : (Entry → Bool) → List Entry → ℕ → Entry → Type 0
 First test l i e = Chosen test number l i e
 
--- what a scan holds at its end is the rank it answers
-pub held-rank : {key : Entry → ℕ} {f : Found Entry} {k at : ℕ} → Held no_key key f k at → rank_held (record { key = k; at = at }) ≡ rank_of f
-held-rank nothing = refl
-held-rank {key} (something {i = i} {x = x} l) = rw (lt-ltb (key x) no_key l)
+-- ---- the loops that look for an entry ----
 
--- the turn of a scan, as its loop has it
-pub lower-turn : {key : Entry → ℕ} {test : Entry → Bool} {es : List Entry} {n i : ℕ} (held : Least) (d : Entry) (t : Least)
-    → Lowering no_key test key es n held.key held.at i → n ≤ length es → i < n
-    → (test (get_or es i d) ≡ true → key (get_or es i d) < no_key) → t ≡ lower_key held i (keyed no_key test key (get_or es i d))
-    → Lowering no_key test key es n t.key t.at (i + 1)
-lower-turn {key} {test} {es} {n} {i} held d t v fits inside small e = rw e (go (ltb (keyed no_key test key (get_or es i d)) held.key) refl)
+-- the place of the first that passes
+position-on : (test : Entry → Bool) (j : ℕ) (l : List Entry) → position_from test j l ≡ rank_of (scan (choosing test never) nowhere j l)
+unfolding scan
+position-on test j [] = refl
+position-on test j (x ∷ l) = by (test x) (position-on test (j + 1) l)
   where
-    go : (b : Bool) → ltb (keyed no_key test key (get_or es i d)) held.key ≡ b
-        → Lowering no_key test key es n (cond b (record { key = keyed no_key test key (get_or es i d); at = i }) held).key
-        (cond b (record { key = keyed no_key test key (get_or es i d); at = i }) held).at (i + 1)
-    go true q = lower-taken d v fits inside small (ltb-true (keyed no_key test key (get_or es i d)) held.key q)
-    go false q = lower-kept d v fits inside small (ltb-false (keyed no_key test key (get_or es i d)) held.key q)
+    by : (b : Bool) → position_from test (j + 1) l ≡ rank_of (scan (choosing test never) nowhere (j + 1) l)
+        → cond b (Some j) (position_from test (j + 1) l) ≡ rank_of (scan (choosing test never) (consider never b j x nowhere) (j + 1) l)
+    by true more = rw (found-stays test j (j + 1) x l) refl
+    by false more = more
+
+pub position-first : (test : Entry → Bool) (l : List Entry) → position test l ≡ rank_of (first test never l)
+unfolding first
+position-first test l = position_from-zero test l ∙ position-on test 0 l
+
+-- what a scan for the least key holds of what it has found
+abbrev pub held_of : (Entry → ℕ) → Found Entry → Option Least
+held_of key nowhere = None
+held_of key (found i x) = Some (record { key = key x; at = i })
+
+pub held-rank : (key : Entry → ℕ) (f : Found Entry) → option_map (λ (h : Least). h.at) (held_of key f) ≡ rank_of f
+held-rank key nowhere = refl
+held-rank key (found i x) = refl
+
+-- a turn of it: an entry that has no key changes nothing
+abbrev pub held_next : Option Least → ℕ → Option ℕ → Option Least
+held_next held i None = held
+held_next held i (Some k) = lower_key held i k
+
+pub held-turn : (test : Entry → Bool) (key : Entry → ℕ) (l : List Entry) (i : ℕ) (d : Entry) → i < length l
+    → held_next (held_of key (first test (lesser key) (take i l))) i (keyed test key (get_or l i d)) ≡ held_of key (first test (lesser key) (take (i + 1) l))
+unfolding first
+held-turn test key l i d inside =
+    turn (test x) (scan (choosing test (lesser key)) nowhere 0 (take i l))
+    ∙ ap (held_of key) (sym (scan-more (choosing test (lesser key)) nowhere l i d inside))
+  where
+    x : Entry
+    x = get_or l i d
+
+    turn : (b : Bool) (f : Found Entry) → held_next (held_of key f) i (cond b (Some (key x)) None) ≡ held_of key (consider (lesser key) b i x f)
+    turn false f = refl
+    turn true nowhere = refl
+    turn true (found j y) = by (ltb (key x) (key y)) refl
+      where
+        by : (b : Bool) → ltb (key x) (key y) ≡ b → lower_key (Some (record { key = key y; at = j })) i (key x) ≡ held_of key (cond b (found i x) (found j y))
+        by true q = rw (lt-leb (key y) (key x) (ltb-true (key x) (key y) q)) refl
+        by false q = rw (le-leb (key y) (key x) (ltb-false (key x) (key y) q)) refl

@@ -11,12 +11,12 @@ use Rattle.lists.proofs.PlaceLaws.{at_same, at-inside, at-get_d}
 use Rattle.lists.proofs.ChooseLaws.{Chosen, Tells}
 use Rattle.book.specs.declared.Entry.{Entry}
 use Rattle.book.specs.declared.Book.{Book}
-use Rattle.book.specs.declared.Rank.TheVariants.{At, Nowhere}
+use Rattle.std.specs.Prelude.{Some, None}
 use Rattle.book.specs.Shape.{zero_entry, entries_of, WellFormed, Place}
 use Rattle.book.specs.Look.{rank_of}
 use Rattle.book.proofs.ShapeLaws.{length-entries, entry_at}
 
-pub rank-none : (f : Found Entry) → Nowhere ≡ rank_of f → f ≡ nowhere
+pub rank-none : (f : Found Entry) → None ≡ rank_of f → f ≡ nowhere
 rank-none nowhere e = refl
 rank-none (found j x) e = let z : ◌≡◌ {A = ℕ} 0 1 = cc in absurd (omega arith)
 
@@ -25,7 +25,7 @@ pub record Ranked (l : List Entry) (f : Found Entry) (i : ℕ) : Type 0 where
   pub inside : i < length l
   pub is : f ≡ found i (get_or l i zero_entry)
 
-pub rank-at : (test : Entry → Bool) (key : Entry → ℕ) (l : List Entry) (f : Found Entry) (i : ℕ) → Tells test key l f → At i ≡ rank_of f → Ranked l f i
+pub rank-at : (test : Entry → Bool) (key : Entry → ℕ) (l : List Entry) (f : Found Entry) (i : ℕ) → Tells test key l f → Some i ≡ rank_of f → Ranked l f i
 rank-at test key l nowhere i t e = let z : ◌≡◌ {A = ℕ} 0 1 = cc in absurd (omega arith)
 rank-at test key l (found j x) i t e =
     let same : j ≡ i = cc in

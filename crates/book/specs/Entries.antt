@@ -3,6 +3,7 @@
 use Rattle.std.specs.Prelude.{ℕ, ◌-◌, Bool, not, ◌&&◌, eqb}
 use Rattle.std.specs.Bool.{beq}
 use Rattle.kinds.specs.Kinds.{quotes}
+use Rattle.prices.specs.declared.Interest.{Interest}
 use Rattle.prices.specs.declared.Prices.{Prices}
 use Rattle.book.specs.declared.Entry.{Entry}
 use Rattle.book.specs.declared.Pricing.{Pricing}
@@ -12,11 +13,21 @@ use Rattle.book.specs.declared.Pricing.TheVariants.{Fixed, Dark, Sliding}
 abbrev pub last_number : ℕ
 last_number = 1000000
 
+-- what it asks, as the price rules have it
+abbrev pub interest_of : Entry → Interest
+interest_of e = record { kind = e.kind; sell = e.sell; limit = e.limit }
+
 -- the display price; "a report shows display 0 for a dark entry"
 abbrev pub shown_as : ℕ → Pricing → ℕ
 shown_as limit Fixed = limit
 shown_as limit Dark = 0
 shown_as limit (Sliding d) = d
+
+-- how an entry is priced, by number: 0 fixed, 1 dark, 2 sliding
+abbrev pub pricing_number : Pricing → ℕ
+pricing_number Fixed = 0
+pricing_number Dark = 1
+pricing_number (Sliding d) = 2
 
 abbrev pub display : Entry → ℕ
 display e = shown_as e.limit e.pricing

@@ -1,19 +1,17 @@
 -- Who trades first, and which prices a side faces.
 -- Assumes nothing.
-use Rattle.std.specs.Prelude.{ℕ, ◌+◌, ◌-◌, ◌*◌, ◌<◌, ◌≡◌, Bool, true, false, cond, not, ◌&&◌, ◌||◌, List, ltb}
+use Rattle.std.specs.Prelude.{ℕ, Option, Some, None, ◌+◌, ◌-◌, ◌*◌, ◌≡◌, Bool, true, false, cond, not, ◌&&◌, ◌||◌, List, leb}
 use Rattle.prices.specs.Side.{nearer}
-use Rattle.lists.specs.Choose.{scan, Found, nowhere, found, first, lesser, never}
+use Rattle.lists.specs.Choose.{scan, Found, nowhere, found, first, lesser, never, keyed}
 use Rattle.book.specs.declared.Entry.{Entry}
 use Rattle.book.specs.declared.Front.{Front}
 use Rattle.book.specs.declared.Least.{Least}
-use Rattle.book.specs.declared.Rank.{Rank}
-use Rattle.book.specs.declared.Rank.TheVariants.{At, Nowhere}
 use Rattle.book.specs.Entries.{display, displayed, against, own_entry, quote_of}
 
 -- the rank at which a search has found an entry
-abbrev pub rank_of : Found Entry → Rank
-rank_of nowhere = Nowhere
-rank_of (found i e) = At i
+abbrev pub rank_of : Found Entry → Option ℕ
+rank_of nowhere = None
+rank_of (found i e) = Some i
 
 -- ---- who trades first ----
 
@@ -35,20 +33,18 @@ eligible s shown_only e = against s e && (not shown_only || displayed e)
 unfoldable pub best_contra : Bool → Bool → List Entry → Found Entry
 best_contra s shown_only l = first (eligible s shown_only) (lesser (priority s)) l
 
--- above all keys (2^40), for none: prices and entry numbers fit 32 bits
+-- above all priorities (2^40): a price fits 32 bits
 abbrev pub no_key : ℕ
 no_key = 1099511627776
 
--- a turn of a scan for it: a lesser key takes its place
-abbrev pub lower_key : Least → ℕ → ℕ → Least
-lower_key held at key = cond (ltb key held.key) (record { key = key; at = at }) held
+-- a turn of a scan for it, which holds the least key that it has met, and where, or nothing: a lesser key takes its place
+abbrev pub lower_key : Option Least → ℕ → ℕ → Option Least
+lower_key None at key = Some (record { key = key; at = at })
+lower_key (Some held) at key = cond (leb held.key key) (Some held) (Some (record { key = key; at = at }))
 
--- its start, which has met nobody, and its end: a key below `no_key` was met
-abbrev pub none_met : Least
-none_met = record { key = no_key; at = 0 }
-
-abbrev pub rank_held : Least → Rank
-rank_held held = cond (ltb held.key no_key) (At held.at) Nowhere
+-- what such a scan answers where K says which keys an entry may be given: if it is one key of those that pass a test, the first least
+abbrev pub LeastBy : (Entry → Option ℕ → Type 0) → List Entry → Option ℕ → Type 0
+LeastBy K l r = (test : Entry → Bool) (key : Entry → ℕ) → ((e : Entry) (k : Option ℕ) → K e k → k ≡ keyed test key e) → r ≡ rank_of (first test (lesser key) l)
 
 -- ---- the prices that a side faces, 0 for none ----
 
@@ -102,7 +98,6 @@ quote_in party s l = first (quote_of party s) never l
 unfoldable pub lowest : (Entry → Bool) → List Entry → Found Entry
 lowest test l = first test (lesser (λ (e : Entry). e.number)) l
 
--- a turn of a scan for it: r is held behind an entry, which passes or not; entry numbers are keys
-pub record Sooner (held : Least) (at : ℕ) (passes : Bool) (e : Entry) (r : Least) : Type 0 where
-  pub is : r ≡ cond passes (lower_key held at e.number) held
-  pub small : e.number < no_key
+-- an answer that names it, where P says how a test may answer
+abbrev pub LowestBy : (Entry → Bool → Type 0) → List Entry → Option ℕ → Type 0
+LowestBy P l r = (test : Entry → Bool) → ((e : Entry) (b : Bool) → P e b → b ≡ test e) → r ≡ rank_of (lowest test l)

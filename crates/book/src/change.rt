@@ -1,5 +1,5 @@
 // The operations of the book: what each does to the list of entries in rank order.
-ghost use Rattle.std.specs.Prelude.{◌≡◌, [], min, set};
+ghost use Rattle.std.specs.Prelude.{◌≡◌, [], set};
 ghost use Rattle.lists.specs.Places.{without, requeue};
 ghost use Rattle.book.specs.Shape.{entries_of, book_of, Place, TwoPlaces, Space};
 ghost use Rattle.book.specs.Change.{post, hit, hit_both};
@@ -31,14 +31,9 @@ pub fn requeued(mut b: Book, i: usize, e: Entry) -> Book
     requires { Place b i }
     ensures { result ≡ book_of (requeue i e (entries_of b)) }
 {
-    let last = b.count - 1;
-    let mut j = i;
-    while j < last {
-        let x = b.entries[j + 1];
-        b.entries[j] = x;
-        j += 1;
-    }
-    b.entries[last] = e;
+    let n = b.count;
+    b.entries[i] = e;
+    b.entries[i..n].rotate_left(1);
     b
 }
 
@@ -86,14 +81,4 @@ pub fn traded(b: Book, i: usize, j: usize, quantity: u32) -> Book
     }
     let c = taken(b, i, quantity);
     taken(c, j, quantity)
-}
-
-// The lesser of two quantities: what both can trade.
-pub fn lesser(a: u32, b: u32) -> u32
-    ensures { result ≡ min a b }
-{
-    if a < b {
-        return a;
-    }
-    b
 }

@@ -1,10 +1,11 @@
 // One entry.
 ghost use Rattle.std.specs.Prelude.{◌≡◌};
-ghost use Rattle.book.specs.Entries.{display, displayed, quote, against, own_entry, quote_of, priced};
+ghost use Rattle.book.specs.Entries.{display, pricing_number, displayed, quote, against, own_entry, quote_of, priced, interest_of};
 ghost use Rattle.book.specs.Shape.{zero_entry};
 
 use crate::{Entry, Pricing};
 use kinds::is_quoting;
+use prices::Interest;
 
 // The last entry number that is given.
 pub const LAST_NUMBER: u32 = 1000000;
@@ -29,13 +30,24 @@ pub fn zero_entry() -> Entry
 pub fn kind_of(e: Entry) -> u32
     ensures { result ≡ e.kind }
 {
-    e.kind as u32
+    u32::from(e.kind)
 }
 
 pub fn party_of(e: Entry) -> u32
     ensures { result ≡ e.party }
 {
-    e.party as u32
+    u32::from(e.party)
+}
+
+// What it asks, as the price rules have it.
+pub fn interest_of(e: Entry) -> Interest
+    ensures { result ≡ interest_of e }
+{
+    Interest {
+        kind: kind_of(e),
+        sell: e.sell,
+        limit: e.limit,
+    }
 }
 
 // The price it shows, 0 for none.
@@ -47,6 +59,17 @@ pub fn display_of(e: Entry) -> u32
         Pricing::Fixed => e.limit,
         Pricing::Dark => 0,
         Pricing::Sliding(d) => d,
+    }
+}
+
+// How it is priced, by number: 0 fixed, 1 dark, 2 sliding.
+pub fn pricing_number(p: Pricing) -> u32
+    ensures { result ≡ pricing_number p }
+{
+    match p {
+        Pricing::Fixed => 0,
+        Pricing::Dark => 1,
+        Pricing::Sliding(_) => 2,
     }
 }
 
@@ -86,13 +109,8 @@ pub fn repriced(e: Entry, display: u32, working: u32) -> Entry
     ensures { result ≡ priced (record { display = display; working = working }) e }
 {
     Entry {
-        number: e.number,
-        party: e.party,
-        kind: e.kind,
-        sell: e.sell,
-        limit: e.limit,
-        quantity: e.quantity,
         working,
         pricing: Pricing::Sliding(display),
+        ..e
     }
 }

@@ -8,7 +8,7 @@ pub mod find;
 pub mod look;
 
 // How an entry is priced. `Fixed` comes first, so that an unused place of the book is all zero.
-#[derive(Clone, Copy)]
+#[derive(Clone, Copy, PartialEq, Eq, Debug)]
 pub enum Pricing {
     // displays and works at its limit
     Fixed,
@@ -19,7 +19,7 @@ pub enum Pricing {
 }
 
 // A quote or an order.
-#[derive(Clone, Copy)]
+#[derive(Clone, Copy, PartialEq, Eq, Debug)]
 pub struct Entry {
     pub number: u32,
     pub party: u8,
@@ -39,22 +39,15 @@ pub struct Book {
     pub count: usize,
 }
 
-// Where in the book an entry stands that was looked for, oldest rank first.
-#[derive(Clone, Copy)]
-pub enum Rank {
-    At(usize),
-    Nowhere,
-}
-
 // The best working prices that rest: the highest buy and the lowest sell, 0 for none.
-#[derive(Clone, Copy)]
+#[derive(Clone, Copy, PartialEq, Eq, Debug)]
 pub struct Front {
     pub bid: u32,
     pub offer: u32,
 }
 
-// The least key that a scan has met, and where: `look::NO_KEY` stands for none.
-#[derive(Clone, Copy)]
+// The least key that a scan has met, and where.
+#[derive(Clone, Copy, PartialEq, Eq, Debug)]
 pub struct Least {
     pub key: u64,
     pub at: usize,

@@ -1,45 +1,29 @@
 // Who trades first, and which prices a side faces.
-ghost use Rattle.std.specs.Prelude.{◌≡◌, true, cond, ◌<◌};
+ghost use Rattle.std.specs.Prelude.{◌≡◌, cond, ◌<◌};
+ghost use Rattle.prices.specs.Side.{nearer};
 ghost use Rattle.book.specs.Shape.{entries_of, WellFormed};
-ghost use Rattle.book.specs.Look.{no_key, cost, priority, eligible, best_contra, rank_of, lower_key, none_met, rank_held};
-ghost use Rattle.book.specs.Look.{Sooner, working, facing, contra_in, front_of, front_turn, hidden_price, best_hidden};
-ghost use Rattle.book.specs.Entries.{displayed};
+ghost use Rattle.book.specs.Look.{no_key, cost, priority, eligible, best_contra, rank_of, lower_key, LeastBy, LowestBy};
+ghost use Rattle.book.specs.Look.{contra_in, front_of, front_turn, hidden_price, best_hidden};
+ghost use Rattle.book.specs.Entries.{against};
 ghost use Rattle.lists.specs.Choose.{keyed};
 
 use crate::entries::{is_against, is_displayed};
-use crate::{Book, Entry, Front, Least, Rank};
+use crate::find::resting;
+use crate::{Book, Entry, Front, Least};
 use prices::side::nearer_of;
-use prices::step::less;
-
-// Above all keys, for none.
-pub const NO_KEY: u64 = 1099511627776;
 
 // What a price costs a taker: less is better.
 pub fn cost_of(sell: bool, p: u32) -> u32
     ensures { result ≡ cost sell p }
 {
-    if sell { less(200000, p) } else { p }
+    if sell { 200000u32.saturating_sub(p) } else { p }
 }
 
-fn wide(x: u32) -> u64
-    ensures { (result ≡ x) × (result < 4294967296) }
-{
-    x as u64
-}
-
-// At one price displayed interest goes before undisplayed.
-fn hidden_of(e: Entry) -> u64
-    ensures { (result ≡ cond (displayed e) 0 1) × (result < 2) }
-{
-    if is_displayed(e) { 0 } else { 1 }
-}
-
-// Who trades first: the least.
+// Who trades first: the least. At one price displayed interest goes before undisplayed.
 pub fn priority_of(sell: bool, e: Entry) -> u64
     ensures { (result ≡ priority sell e) × (result < no_key) }
 {
-    let price = wide(cost_of(sell, e.working));
-    2 * price + hidden_of(e)
+    2 * u64::from(cost_of(sell, e.working)) + u64::from(!is_displayed(e))
 }
 
 pub fn is_eligible(sell: bool, shown: bool, e: Entry) -> bool
@@ -48,75 +32,60 @@ pub fn is_eligible(sell: bool, shown: bool, e: Entry) -> bool
     is_against(sell, e) & (!shown | is_displayed(e))
 }
 
-// A scan for the least key, before it has met any.
-pub fn nobody() -> Least
-    ensures { result ≡ none_met }
-{
-    Least { key: NO_KEY, at: 0 }
-}
-
-// A turn of it.
-fn lower_of(held: Least, at: usize, key: u64) -> Least
+// A turn of a scan for the least key. Of equal keys the first stays, which is the older rank.
+fn lower_of(held: Option<Least>, at: usize, key: u64) -> Option<Least>
     ensures { result ≡ lower_key held at key }
 {
-    if key < held.key {
-        return Least { key, at };
+    match held {
+        Some(least) if least.key <= key => held,
+        _ => Some(Least { key, at }),
     }
-    held
 }
 
-// Its end: where the least key was met, if any was.
-pub fn rank_of(held: Least) -> Rank
-    ensures { result ≡ rank_held held }
+// Where the least key stands, of those entries that have one.
+pub fn least_of<F: Fn(Entry) -> Option<u64>>(b: Book, key_of: F) -> Option<usize>
+    requires well { WellFormed b }
+    requires callable { F.IsAlwaysCallable key_of }
+    ensures { LeastBy (F.post key_of) (entries_of b) result }
 {
-    if held.key < NO_KEY {
-        return Rank::At(held.at);
+    let mut held: Option<Least> = None;
+    for (i, e) in resting(&b).iter().enumerate() {
+        if let Some(key) = key_of(*e) {
+            held = lower_of(held, i, key);
+        }
     }
-    Rank::Nowhere
+    held.map(|least| least.at)
 }
 
-// A turn by entry number, of those that pass alone.
-pub fn sooner(held: Least, at: usize, passes: bool, e: Entry) -> Least
-    ensures { Sooner held at passes e result }
+// The first by entry number of those that pass.
+pub fn lowest<F: Fn(Entry) -> bool>(b: Book, passes: F) -> Option<usize>
+    requires well { WellFormed b }
+    requires callable { F.IsAlwaysCallable passes }
+    ensures { LowestBy (F.post passes) (entries_of b) result }
 {
-    let number = e.number as u64;
-    if passes {
-        return lower_of(held, at, number);
-    }
-    held
+    least_of(b, |e| passes(e).then_some(u64::from(e.number)))
 }
 
-fn contra_key(sell: bool, shown: bool, e: Entry) -> u64
-    ensures { (result ≡ keyed no_key (eligible sell shown) (priority sell) e) × (eligible sell shown e ≡ true → priority sell e < no_key) }
+fn contra_key(sell: bool, shown: bool, e: Entry) -> Option<u64>
+    ensures { result ≡ keyed (eligible sell shown) (priority sell) e }
 {
-    if is_eligible(sell, shown, e) {
-        return priority_of(sell, e);
-    }
-    NO_KEY
+    is_eligible(sell, shown, e).then_some(priority_of(sell, e))
 }
 
 // The one best contra entry for a taker.
-pub fn best_contra(b: Book, sell: bool, shown: bool) -> Rank
+pub fn best_contra(b: Book, sell: bool, shown: bool) -> Option<usize>
     requires { WellFormed b }
     ensures { result ≡ rank_of (best_contra sell shown (entries_of b)) }
 {
-    let n = b.count;
-    let mut held = nobody();
-    let mut i = 0usize;
-    while i < n {
-        let key = contra_key(sell, shown, b.entries[i]);
-        held = lower_of(held, i, key);
-        i += 1;
-    }
-    rank_of(held)
+    least_of(b, |e| contra_key(sell, shown, e))
 }
 
-// A turn of a scan for the best working price that a side faces. Dark interest counts.
-fn contra_turn(sell: bool, q: u32, e: Entry) -> u32
-    ensures { result ≡ facing working sell q e }
+// A turn of a scan for the best price that a side faces: this is the entry's. Dark interest counts.
+fn facing_turn(sell: bool, q: u32, e: Entry, price: u32) -> u32
+    ensures { result ≡ cond (against sell e) (nearer sell q price) q }
 {
     if is_eligible(sell, false, e) {
-        return nearer_of(sell, q, e.working);
+        return nearer_of(sell, q, price);
     }
     q
 }
@@ -126,8 +95,8 @@ fn front_turn(front: Front, e: Entry) -> Front
     ensures { result ≡ front_turn front e }
 {
     Front {
-        bid: contra_turn(true, front.bid, e),
-        offer: contra_turn(false, front.offer, e),
+        bid: facing_turn(true, front.bid, e, e.working),
+        offer: facing_turn(false, front.offer, e, e.working),
     }
 }
 
@@ -136,14 +105,7 @@ pub fn front_of(b: Book) -> Front
     requires { WellFormed b }
     ensures { result ≡ front_of (entries_of b) }
 {
-    let n = b.count;
-    let mut front = Front { bid: 0, offer: 0 };
-    let mut i = 0usize;
-    while i < n {
-        front = front_turn(front, b.entries[i]);
-        i += 1;
-    }
-    front
+    resting(&b).iter().fold(Front { bid: 0, offer: 0 }, |front, e| front_turn(front, *e))
 }
 
 // C of a side.
@@ -153,14 +115,11 @@ pub fn contra_of(front: Front, sell: bool) -> u32
     if sell { front.bid } else { front.offer }
 }
 
-// A turn of a scan for the best price at which undisplayed interest works against a side.
-fn hidden_turn(sell: bool, q: u32, e: Entry) -> u32
-    ensures { result ≡ facing hidden_price sell q e }
+// The price at which it works undisplayed, 0 for none.
+fn hidden_price(e: Entry) -> u32
+    ensures { result ≡ hidden_price e }
 {
-    if is_against(sell, e) & !is_displayed(e) {
-        return nearer_of(sell, q, e.working);
-    }
-    q
+    if is_displayed(e) { 0 } else { e.working }
 }
 
 // The best price at which undisplayed interest works against a side, 0 for none.
@@ -168,12 +127,7 @@ pub fn best_hidden(b: Book, sell: bool) -> u32
     requires { WellFormed b }
     ensures { result ≡ best_hidden sell (entries_of b) }
 {
-    let n = b.count;
-    let mut best = 0u32;
-    let mut i = 0usize;
-    while i < n {
-        best = hidden_turn(sell, best, b.entries[i]);
-        i += 1;
-    }
-    best
+    resting(&b)
+        .iter()
+        .fold(0, |best, e| facing_turn(sell, best, *e, hidden_price(*e)))
 }

@@ -4,7 +4,7 @@ use Prim.Native.Nat.{ℕ, zero, suc, ◌+◌, ◌-◌, ◌≤◌}
 use mathlib.Core.Path.{◌≡◌, refl, sym, ap, ◌∙◌}
 use mathlib.Core.Bool.{Bool, true, false, cond, not}
 use mathlib.Core.List.{List}
-use mathlib.Core.Option.{Option, none, some}
+use Rattle.std.specs.Prelude.{Option, None, Some}
 use native.Mathlib.Omega.{arith}
 use lib.Dec.{eqb, leb}
 use lib.ListN.{length}
@@ -15,10 +15,9 @@ use Rattle.packing.specs.Message.{messages}
 use Rattle.packing.specs.Room.{read_back, room_size, most_reports}
 use Rattle.series.specs.declared.Series.{Series}
 use Rattle.series.specs.Series.{sound_series}
-use Rattle.handler.specs.declared.Answer.{Answer}
 use Rattle.handler.specs.Asked.{ask_of}
 use Rattle.handler.specs.Refuse.{refusal_of}
-use Rattle.handler.specs.Handle.{first_of, refused, refused_or, accepted, heard, handled_as, handled}
+use Rattle.handler.specs.Handle.{Answered, first_of, refused, refused_or, accepted, heard, handled_as, handled}
 use Rattle.handler.proofs.Refusals.{refusals-keep}
 use Rattle.handler.proofs.Demands.{reports-told, room-enough}
 
@@ -44,14 +43,14 @@ module _ (s : Series) (message one other : List ℕ) (large : room_size ≤ leng
       by : (b : Bool) (u : Option Event) → (refused_or (first_of false 10 (not b) 11) s one (heard s one u)).answer
           ≡ (refused_or (first_of false 10 (not b) 11) s other (heard s other u)).answer
       by false u = refl
-      by true none = refl
-      by true (some e) = judge e (eqb (refusal_of s (ask_of e)) 0)
+      by true None = refl
+      by true (Some e) = judge e (eqb (refusal_of s (ask_of e)) 0)
 
   -- AND SO ARE THE REPORTS of an accepted message, read back from the room
   pub same-reports : (handled s message one).answer.refusal ≡ 0
       → read_back (handled s message one).answer.count (handled s message one).room
       ≡ read_back (handled s message other).answer.count (handled s message other).room
-  same-reports h = reports-told s message one h ∙ sym (reports-told s message other (sym (ap (λ (a : Answer). a.refusal) same_answer) ∙ h))
+  same-reports h = reports-told s message one h ∙ sym (reports-told s message other (sym (ap (λ (a : Answered). a.refusal) same_answer) ∙ h))
 
 -- whether so many bytes are left behind `used`, as code asks it and as definitions do
 pub room-left : (more size used : ℕ) → used ≤ size → leb more (size - used) ≡ leb (used + more) size

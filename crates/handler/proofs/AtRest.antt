@@ -4,7 +4,7 @@ use Prim.Native.Nat.{ℕ, ◌≤◌}
 use mathlib.Core.Path.{◌≡◌, refl, sym, ap, subst, ◌∙◌}
 use mathlib.Core.Bool.{Bool, true, false, cond, ◌||◌}
 use mathlib.Core.List.{List}
-use mathlib.Core.Option.{some}
+use Rattle.std.specs.Prelude.{Some}
 use native.Mathlib.Omega.{arith}
 use lib.Dec.{eqb}
 use Rattle.prices.specs.declared.Prices.{Prices}
@@ -172,7 +172,7 @@ pub record SettlesCalmly (s : Series) (a : Ask) (h : Handled) : Type 0 where
   pub no-trade : All NoTrade (settling_of s a).records
   pub takes-nothing : TakesNothing (market_of h.answer.series.terms) (own_of s a).final
 
-module _ (s : Series) (message room : List ℕ) (e : Event) (read : unpack_of messages message ≡ some e)
+module _ (s : Series) (message room : List ℕ) (e : Event) (read : unpack_of messages message ≡ Some e)
     (zero : (handled s message room).answer.refusal ≡ 0) where
   -- the away prices stay: a message of any other kind leaves them as they were
   pub kind-stays : sets_away (ask_of e).kind ≡ false → market_of (handled s message room).answer.series.terms ≡ market_of s.terms

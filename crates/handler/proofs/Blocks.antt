@@ -4,7 +4,7 @@ use Prim.Native.Nat.{ℕ, ◌-◌, ◌≤◌, ◌<◌}
 use mathlib.Core.Path.{◌≡◌, refl, sym, subst, ap, ◌∙◌}
 use mathlib.Core.Bool.{Bool, true, false, cond, ◌&&◌}
 use mathlib.Core.List.{List}
-use mathlib.Core.Option.{some}
+use Rattle.std.specs.Prelude.{Some}
 use native.Mathlib.Omega.{arith}
 use lib.Dec.{eqb, leb}
 use lib.ListN.{length, set, get_or, length-set}
@@ -130,7 +130,7 @@ module _ (s : Series) (a : Ask) (ok : Accepted s a) (flags : length s.blocked �
           go q false e = other-flag maker true one (eqb-false maker a.party e) (quote-flag q) ∙ h
 
 -- BLOCKED UNTIL ENABLED, for every accepted message; the block list has a flag for each of the 16 makers, as the code's array has
-pub blocked-until-enabled : (s : Series) (message room : List ℕ) (e : Event) → unpack_of messages message ≡ some e → (handled s message room).answer.refusal ≡ 0
+pub blocked-until-enabled : (s : Series) (message room : List ℕ) (e : Event) → unpack_of messages message ≡ Some e → (handled s message room).answer.refusal ≡ 0
     → length s.blocked ≡ 16 → Blocking s (ask_of e) (handled s message room).answer.series
 blocked-until-enabled s message room e read h flags =
     of-accepted s message room e read h (λ (x : Handled). Blocking s (ask_of e) x.answer.series) (λ ok space. blocking s (ask_of e) ok flags)
@@ -141,7 +141,7 @@ unfolding refusal_of
 six-first s a party price quantity opened q h = rw (party, price, quantity, opened, q, h) refl
 
 -- 6, "kinds 1-4, maker blocked": A BLOCKED MAKER'S QUOTE that passes the tests before, 10, 11 and 1 to 5, IS REFUSED WITH 6, and changes nothing
-pub blocked-refused : (s : Series) (message room : List ℕ) (e : Event) → room_size ≤ length room → sound_series s ≡ true → unpack_of messages message ≡ some e
+pub blocked-refused : (s : Series) (message room : List ℕ) (e : Event) → room_size ≤ length room → sound_series s ≡ true → unpack_of messages message ≡ Some e
     → bad_party (ask_of e) ≡ false → bad_price s.terms.m (ask_of e) ≡ false → bad_quantity (ask_of e) ≡ false → not_open s.terms.phase (ask_of e) ≡ false
     → quotes (ask_of e).kind ≡ true → is_blocked_in s (ask_of e).party ≡ true → handled s message room ≡ refused 6 s room
 blocked-refused s message room e space sound read party price quantity opened q h =

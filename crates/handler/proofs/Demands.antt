@@ -6,7 +6,7 @@ use Prim.Native.Nat.{ℕ, zero, suc, ◌+◌, ◌*◌, ◌≤◌, ◌<◌}
 use mathlib.Core.Path.{◌≡◌, refl, sym, subst, ap, ◌∙◌}
 use mathlib.Core.Bool.{Bool, true, false, cond}
 use mathlib.Core.List.{List, [], ◌∷◌, ◌++◌, map}
-use mathlib.Core.Option.{Option, none, some}
+use Rattle.std.specs.Prelude.{Option, None, Some}
 use native.Mathlib.Omega.{arith}
 use lib.Dec.{eqb}
 use lib.ListN.{length, take, drop, length-append, length-drop}
@@ -62,8 +62,8 @@ settling-says s a ok P moves trades =
     (λ _. settled_says P moves trades (own-sound s a ok)) (λ _. tt)
 
 abbrev pub reports_of : Series → Option Event → List Report
-reports_of s none = []
-reports_of s (some e) = (done s.terms (ask_of e) (entries_of s.book)).records
+reports_of s None = []
+reports_of s (Some e) = (done s.terms (ask_of e) (entries_of s.book)).records
 
 -- the counted reports of an answer, as they unpack from the room
 abbrev pub reports_in : Handled → List (Option Report)
@@ -71,14 +71,14 @@ reports_in h = read_back h.answer.count h.room
 
 -- each of them unpacks, to a report of which P holds
 abbrev pub OfReport : (Report → Type 0) → Option Report → Type 0
-OfReport P none = ⊥
-OfReport P (some r) = P r
+OfReport P None = ⊥
+OfReport P (Some r) = P r
 
 abbrev pub EachReport : (Report → Type 0) → Handled → Type 0
 EachReport P h = All (OfReport P) (reports_in h)
 
 module _ (s : Series) (a : Ask) (ok : Accepted s a) (room : List ℕ) (space : room_size ≤ length room) where
-  pub accepted-told : reports_in (accepted s a room) ≡ map some (done s.terms a (entries_of s.book)).records
+  pub accepted-told : reports_in (accepted s a room) ≡ map Some (done s.terms a (entries_of s.book)).records
   accepted-told =
       reports-read-back room 0 (done s.terms a (entries_of s.book)).records (done-part s a ok).fit (omega (arith, (done-part s a ok).few, space))
 
@@ -86,17 +86,17 @@ module _ (s : Series) (a : Ask) (ok : Accepted s a) (room : List ℕ) (space : r
   pub each-told : (P : Report → Type 0) → All P (done s.terms a (entries_of s.book)).records → EachReport P (accepted s a room)
   each-told P h = subst (All (OfReport P)) (sym accepted-told) (over (done s.terms a (entries_of s.book)).records h)
     where
-      over : (rs : List Report) → All P rs → All (OfReport P) (map some rs)
+      over : (rs : List Report) → All P rs → All (OfReport P) (map Some rs)
       over [] h = tt
       over (r ∷ rs) h = (h.0, over rs h.1)
 
   -- and each of those stands in the room
-  pub told_at : (i : ℕ) (r : Report) → At (done s.terms a (entries_of s.book)).records i r → At (reports_in (accepted s a room)) i (some r)
-  told_at i r h = subst (λ (rs : List (Option Report)). At rs i (some r)) (sym accepted-told) (over (done s.terms a (entries_of s.book)).records i h)
+  pub told_at : (i : ℕ) (r : Report) → At (done s.terms a (entries_of s.book)).records i r → At (reports_in (accepted s a room)) i (Some r)
+  told_at i r h = subst (λ (rs : List (Option Report)). At rs i (Some r)) (sym accepted-told) (over (done s.terms a (entries_of s.book)).records i h)
     where
-      over : (rs : List Report) (i : ℕ) → At rs i r → At (map some rs) i (some r)
+      over : (rs : List Report) (i : ℕ) → At rs i r → At (map Some rs) i (Some r)
       over [] i h = h
-      over (x ∷ rs) zero h = ap some h
+      over (x ∷ rs) zero h = ap Some h
       over (x ∷ rs) (suc i) h = over rs i h
 
 module _ (s : Series) (message room : List ℕ) (zero : (handled s message room).answer.refusal ≡ 0) where
@@ -109,7 +109,7 @@ module _ (s : Series) (message room : List ℕ) (zero : (handled s message room)
   answer-is : handled s message room ≡ accepted s (ask_of way.event) room
   answer-is = handled-accepted s message room way.space way.sound way.event way.read way.passes
 
-  reports-are : reports_of s (unpack_of messages message) ≡ reports_of s (some way.event)
+  reports-are : reports_of s (unpack_of messages message) ≡ reports_of s (Some way.event)
   reports-are = ap (reports_of s) way.read
 
   fits : 14 * (0 + length (reports_of s (unpack_of messages message))) ≤ length room
@@ -129,16 +129,16 @@ module _ (s : Series) (message room : List ℕ) (zero : (handled s message room)
       ∙ ap (λ (n : ℕ). packed_all (reports_of s (unpack_of messages message)) ++ drop n room) size
 
   -- EACH REPORT UNPACKS TO THE DEFINITION'S
-  pub reports-told : reports_in (handled s message room) ≡ map some (reports_of s (unpack_of messages message))
+  pub reports-told : reports_in (handled s message room) ≡ map Some (reports_of s (unpack_of messages message))
   reports-told =
-      ap reports_in answer-is ∙ accepted-told s (ask_of way.event) ok room way.space ∙ ap (map some) (sym reports-are)
+      ap reports_in answer-is ∙ accepted-told s (ask_of way.event) ok room way.space ∙ ap (map Some) (sym reports-are)
 
   -- "2,280 reports of 14": THE ROOM IS ENOUGH
   pub room-enough : (handled s message room).answer.count ≤ most_reports
   room-enough = omega (arith, ap (λ (h : Handled). h.answer.count) answer-is, (done-part s (ask_of way.event) ok).few)
 
 -- WHAT HOLDS OF EVERY REPORT OF THE DEFINITION HOLDS OF EVERY ONE IN THE ROOM
-pub reports-hold : (s : Series) (message room : List ℕ) (e : Event) → unpack_of messages message ≡ some e → (handled s message room).answer.refusal ≡ 0
+pub reports-hold : (s : Series) (message room : List ℕ) (e : Event) → unpack_of messages message ≡ Some e → (handled s message room).answer.refusal ≡ 0
     → (P : Report → Type 0) → All P (done s.terms (ask_of e) (entries_of s.book)).records → EachReport P (handled s message room)
 reports-hold s message room e read h P a = of-accepted s message room e read h (EachReport P) (λ ok space. each-told s (ask_of e) ok room space P a)
 
@@ -209,7 +209,7 @@ module _ (s : Series) (a : Ask) (acc : Accepted s a) (room : List ℕ) where
       few false q = omega arith
 
 -- DEMAND 3, for every sound series and accepted message
-pub demand-3 : (s : Series) (message room : List ℕ) (e : Event) → unpack_of messages message ≡ some e → (handled s message room).answer.refusal ≡ 0
+pub demand-3 : (s : Series) (message room : List ℕ) (e : Event) → unpack_of messages message ≡ Some e → (handled s message room).answer.refusal ≡ 0
     → Demand3 s (ask_of e) (handled s message room)
 demand-3 s message room e read h = of-accepted s message room e read h (Demand3 s (ask_of e)) (λ ok _. demand-3-of s (ask_of e) ok room)
 

@@ -6,7 +6,7 @@ use Prim.Native.Nat.{ℕ, ◌-◌, ◌≤◌}
 use mathlib.Core.Path.{◌≡◌, refl, ap, ◌∙◌}
 use mathlib.Core.Bool.{Bool, true, false}
 use mathlib.Core.List.{List, [], ◌∷◌, map}
-use mathlib.Core.Option.{Option, none, some}
+use Rattle.std.specs.Prelude.{Option, None, Some}
 use native.Mathlib.Omega.{arith}
 use lib.ListN.{length, replicate, set}
 use Rattle.lists.specs.Places.{without}
@@ -286,7 +286,7 @@ pub record Outcome : Type 0 where
   pub blocked : List Bool
 
 abbrev outcome_of : Series → Option Event → Outcome
-outcome_of s none = record {
+outcome_of s None = record {
   sound = sound_series s;
   refusal = 1;
   barred = 0;
@@ -295,11 +295,11 @@ outcome_of s none = record {
   numbers = s.terms;
   blocked = s.blocked;
 }
-outcome_of s (some e) = record {
+outcome_of s (Some e) = record {
   sound = sound_series s;
   refusal = refusal_of s (ask_of e);
   barred = protection_for s.terms (comer s.terms.given (ask_of e)) (entries_of s.book);
-  reports = reports_of s (some e);
+  reports = reports_of s (Some e);
   after = (done s.terms (ask_of e) (entries_of s.book)).final;
   numbers = terms_after s.terms (ask_of e);
   blocked = blocked_after s.terms (ask_of e) (entries_of s.book) s.blocked;
@@ -334,7 +334,7 @@ examples = refl
 pub record Shows (r : Example) (h : Handled) : Type 0 where
   pub refusal : h.answer.refusal ≡ 0
   pub count : h.answer.count ≡ length r.reports
-  pub reports : read_back h.answer.count h.room ≡ map some r.reports
+  pub reports : read_back h.answer.count h.room ≡ map Some r.reports
   pub after : entries_of h.answer.series.book ≡ r.after
   pub numbers : h.answer.series.terms ≡ r.numbers
   pub blocked : h.answer.series.blocked ≡ r.blocked
@@ -343,8 +343,8 @@ row_shows : (r : Example) (room : List ℕ) → room_size ≤ length room → ou
 row_shows r room space same = by (unpack_of messages r.message) refl same
   where
     by : (u : Option Event) → unpack_of messages r.message ≡ u → outcome_of (before r) u ≡ expected r → Shows r (handled (before r) r.message room)
-    by none read k = absurd (let z : ◌≡◌ {A = ℕ} 1 0 = ap (λ (o : Outcome). o.refusal) k in omega arith)
-    by (some e) read k =
+    by None read k = absurd (let z : ◌≡◌ {A = ℕ} 1 0 = ap (λ (o : Outcome). o.refusal) k in omega arith)
+    by (Some e) read k =
         let passes : refusal_of (before r) (ask_of e) ≡ 0 = ap (λ (o : Outcome). o.refusal) k in
         let answer = handled-accepted (before r) r.message room space (ap (λ (o : Outcome). o.sound) k) e read passes in
         let zero : (handled (before r) r.message room).answer.refusal ≡ 0 = ap (λ (h : Handled). h.answer.refusal) answer in
@@ -352,7 +352,7 @@ row_shows r room space same = by (unpack_of messages r.message) refl same
         record {
           refusal = zero;
           count = reports-counted (before r) r.message room zero ∙ ap length told;
-          reports = reports-told (before r) r.message room zero ∙ ap (map some) told;
+          reports = reports-told (before r) r.message room zero ∙ ap (map Some) told;
           after = ap (λ (h : Handled). entries_of h.answer.series.book) answer
               ∙ entries-of-book (done (before r).terms (ask_of e) (entries_of (before r).book)).final ∙ ap (λ (o : Outcome). o.after) k;
           numbers = ap (λ (h : Handled). h.answer.series.terms) answer ∙ ap (λ (o : Outcome). o.numbers) k;

@@ -17,3 +17,4 @@ pub mod ForTheClass
 pub mod TaughtWords
 pub mod TaughtLaws
 pub mod Taught
+pub mod RefuseLaws

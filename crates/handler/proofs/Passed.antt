@@ -4,7 +4,7 @@ use Prim.Native.Nat.{ℕ, suc, ◌+◌, ◌≤◌, ◌<◌}
 use mathlib.Core.Path.{◌≡◌, refl, sym, subst, ◌∙◌}
 use mathlib.Core.Bool.{Bool, true, false, cond, not, ◌&&◌}
 use mathlib.Core.List.{List}
-use mathlib.Core.Option.{some}
+use Rattle.std.specs.Prelude.{Some}
 use native.Mathlib.Omega.{arith}
 use lib.Dec.{eqb, leb}
 use lib.ListN.{length}
@@ -102,12 +102,12 @@ pub accepts : (s : Series) (e : Event) → sound_series s ≡ true → refusal_o
 accepts s e h k = record { sound = h; kind = (ask-kind e).0; passes = k }
 
 -- a message that is answered with 0 is accepted, and that is the answer
-module _ (s : Series) (message room : List ℕ) (e : Event) (read : unpack_of messages message ≡ some e)
+module _ (s : Series) (message room : List ℕ) (e : Event) (read : unpack_of messages message ≡ Some e)
     (zero : (handled s message room).answer.refusal ≡ 0) where
   pub accepted-as : Accepted s (ask_of e)
   accepted-as =
       let w : Accepting s message room = accepting s message room zero in
-      let same : w.event ≡ e = (let z : some w.event ≡ some e = sym w.read ∙ read in cc) in
+      let same : w.event ≡ e = (let z : Some w.event ≡ Some e = sym w.read ∙ read in cc) in
       subst (λ (x : Event). Accepted s (ask_of x)) same (accepts s w.event w.sound w.passes)
 
   pub answer-as : handled s message room ≡ accepted s (ask_of e) room

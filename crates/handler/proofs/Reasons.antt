@@ -5,7 +5,7 @@ use Prim.Native.Nat.{ℕ}
 use mathlib.Core.Path.{◌≡◌, sym, subst}
 use mathlib.Core.Bool.{true}
 use mathlib.Core.List.{List}
-use mathlib.Core.Option.{some}
+use Rattle.std.specs.Prelude.{Some}
 use Rattle.kinds.specs.Kinds.{enters}
 use Rattle.lists.specs.Tests.{All}
 use Rattle.lists.specs.Run.{Ran}
@@ -41,7 +41,7 @@ module _ (s : Series) (a : Ask) (ok : Accepted s a) (comes : enters a.kind ≡ t
       (settling-says s a ok (TrueReason s a) (λ x. tt) (λ x y q. tt))
 
 -- EVERY REASON FROM 20 TO 26 THAT IS TOLD IS TRUE
-pub reasons-told-true : (s : Series) (message room : List ℕ) (e : Event) → unpack_of messages message ≡ some e → (handled s message room).answer.refusal ≡ 0
+pub reasons-told-true : (s : Series) (message room : List ℕ) (e : Event) → unpack_of messages message ≡ Some e → (handled s message room).answer.refusal ≡ 0
     → enters (ask_of e).kind ≡ true → EachReport (TrueReason s (ask_of e)) (handled s message room)
 reasons-told-true s message room e read zero comes =
     reports-hold s message room e read zero (TrueReason s (ask_of e)) (done-true s (ask_of e) (accepted-as s message room e read zero) comes)

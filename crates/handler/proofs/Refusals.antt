@@ -4,7 +4,7 @@ use Prim.Native.Nat.{ℕ, ◌≤◌}
 use mathlib.Core.Path.{◌≡◌, refl, sym, ◌∙◌}
 use mathlib.Core.Bool.{Bool, true, false, cond, not}
 use mathlib.Core.List.{List, [], ◌∷◌}
-use mathlib.Core.Option.{Option, none, some}
+use Rattle.std.specs.Prelude.{Option, None, Some}
 use native.Mathlib.Omega.{arith}
 use lib.Dec.{eqb, ltb}
 use lib.ListN.{length, drop}
@@ -25,12 +25,12 @@ use Rattle.handler.specs.Handle.{first_of, refused_or, Handled, refused, accepte
 
 -- the message unpacks to no event; a test is put to what an event asks
 abbrev pub is_nothing : Option Event → Bool
-is_nothing none = true
-is_nothing (some e) = false
+is_nothing None = true
+is_nothing (Some e) = false
 
 abbrev pub put_to : Option Event → (Ask → Bool) → Bool
-put_to none test = false
-put_to (some e) test = test (ask_of e)
+put_to None test = false
+put_to (Some e) test = test (ask_of e)
 
 -- DOCUMENT 01'S TABLE, in its order: 10, 11, 1, 2, 3, 4, 5, 6, 7, 9, 8
 abbrev pub table : Series → Option Event → List ℕ → List (ℕ × Bool)
@@ -74,8 +74,8 @@ module _ (s : Series) (message room : List ℕ) where
           ≡ cond b 10 (cond (not c) 11 (first_holding (drop 2 (table s u room))))
       by true c u = refl
       by false false u = refl
-      by false true none = refl
-      by false true (some e) = judge e (eqb (refusal_of s (ask_of e)) 0) refl
+      by false true None = refl
+      by false true (Some e) = judge e (eqb (refusal_of s (ask_of e)) 0) refl
 
   -- 0 EXACTLY WHEN NONE HOLDS
   pub accepted-none : (handled s message room).answer.refusal ≡ 0 → All (λ (t : ℕ × Bool). t.1 ≡ false) (table s (unpack_of messages message) room)
@@ -119,8 +119,8 @@ refusals-keep-as s event room h = by (ltb (length room) room_size) (sound_series
         → Unchanged s room (refused_or (first_of b 10 (not c) 11) s room (heard s room u))
     by true c u k = same 10
     by false false u k = same 11
-    by false true none k = same 1
-    by false true (some e) k = judge e (eqb (refusal_of s (ask_of e)) 0) k
+    by false true None k = same 1
+    by false true (Some e) k = judge e (eqb (refusal_of s (ask_of e)) 0) k
 
 pub refusals-keep : (s : Series) (message room : List ℕ) → ((handled s message room).answer.refusal ≡ 0 → ⊥) → Unchanged s room (handled s message room)
 unfolding handled

@@ -6,7 +6,7 @@ use Prim.Native.Nat.{ℕ, ◌+◌, ◌≤◌}
 use mathlib.Core.Path.{◌≡◌}
 use mathlib.Core.Bool.{Bool, true, false}
 use mathlib.Core.List.{List}
-use mathlib.Core.Option.{some}
+use Rattle.std.specs.Prelude.{Some}
 use Rattle.prices.specs.Side.{reaches}
 use Rattle.kinds.specs.Kinds.{enters, quotes, minds}
 use Rattle.kinds.proofs.KindLaws.{sliding-enters, minds-sliding}
@@ -37,7 +37,7 @@ use Rattle.handler.proofs.TaughtLaws.{takes_same, takes-both, takes-opposite, le
 
 -- ---- THE THEOREMS, of what is answered ----
 
-module _ (s : Series) (message room : List ℕ) (e : Event) (read : unpack_of messages message ≡ some e)
+module _ (s : Series) (message room : List ℕ) (e : Event) (read : unpack_of messages message ≡ Some e)
     (zero : (handled s message room).answer.refusal ≡ 0) where
   -- A DISPLAY NEVER MOVES BACK WHILE ITS QUOTE RESTS: in the series left, the display of an entry that rested before is as aggressive as it was, or more
   pub display-never-back : (i j : ℕ) (y x : Entry) → At (entries_of s.book) i y → At (entries_of (handled s message room).answer.series.book) j x
@@ -82,36 +82,36 @@ module _ (s : Series) (message room : List ℕ) (e : Event) (read : unpack_of me
 
   module _ (i why : ℕ) (side : Bool) (party number limit quantity : ℕ) where
     -- A REJECTION WITH 20 TO 24 TAKES THE SAME SIDE
-    pub rejected-takes-same : At (reports_in (handled s message room)) i (some (Rejected why side party number limit quantity)) → why ≤ 24
+    pub rejected-takes-same : At (reports_in (handled s message room)) i (Some (Rejected why side party number limit quantity)) → why ≤ 24
         → TakesSame s (ask_of e) why (handled s message room)
     rejected-takes-same there high =
         of-accepted s message room e read zero
-        (λ (h : Handled). At (reports_in h) i (some (Rejected why side party number limit quantity)) → TakesSame s (ask_of e) why h)
+        (λ (h : Handled). At (reports_in h) i (Some (Rejected why side party number limit quantity)) → TakesSame s (ask_of e) why h)
         (λ ok space z. let r = all-at (OfReport (RejectsAs s (ask_of e))) (reports_in (accepted s (ask_of e) room)) i
-        (some (Rejected why side party number limit quantity)) (rejects-as s (ask_of e) ok room space) z in
+        (Some (Rejected why side party number limit quantity)) (rejects-as s (ask_of e) ok room space) z in
         takes_same s (ask_of e) ok room space r.0 why r.1.1 r.1.0 high)
         there
 
     -- A REJECTION WITH 25 OR 26 TAKES BOTH, AND BLOCKS
-    pub protected-takes-both : At (reports_in (handled s message room)) i (some (Rejected why side party number limit quantity)) → 25 ≤ why
+    pub protected-takes-both : At (reports_in (handled s message room)) i (Some (Rejected why side party number limit quantity)) → 25 ≤ why
         → TakesBoth s (ask_of e) why (handled s message room)
     protected-takes-both there low =
         of-accepted s message room e read zero
-        (λ (h : Handled). At (reports_in h) i (some (Rejected why side party number limit quantity)) → TakesBoth s (ask_of e) why h)
+        (λ (h : Handled). At (reports_in h) i (Some (Rejected why side party number limit quantity)) → TakesBoth s (ask_of e) why h)
         (λ ok space z. let r = all-at (OfReport (RejectsAs s (ask_of e))) (reports_in (accepted s (ask_of e) room)) i
-        (some (Rejected why side party number limit quantity)) (rejects-as s (ask_of e) ok room space) z in
+        (Some (Rejected why side party number limit quantity)) (rejects-as s (ask_of e) ok room space) z in
         takes-both s (ask_of e) ok room space r.0 why r.1.1 low)
         there
 
     -- A QUOTE'S REST THAT IS CANCELLED, with another reason than 27 to 31, TAKES THE OPPOSITE SIDE
     pub remainder-takes-opposite : quotes (ask_of e).kind ≡ true
-        → At (reports_in (handled s message room)) i (some (Cancelled why side party number limit quantity)) → why ≤ 26
+        → At (reports_in (handled s message room)) i (Some (Cancelled why side party number limit quantity)) → why ≤ 26
         → TakesOpposite s (ask_of e) why (handled s message room)
     remainder-takes-opposite quoting there low =
         of-accepted s message room e read zero
-        (λ (h : Handled). At (reports_in h) i (some (Cancelled why side party number limit quantity)) → TakesOpposite s (ask_of e) why h)
+        (λ (h : Handled). At (reports_in h) i (Some (Cancelled why side party number limit quantity)) → TakesOpposite s (ask_of e) why h)
         (λ ok space z. let r = all-at (OfReport (CancelsAs s (ask_of e))) (reports_in (accepted s (ask_of e) room)) i
-        (some (Cancelled why side party number limit quantity)) (cancels-as s (ask_of e) ok room space) z low in
+        (Some (Cancelled why side party number limit quantity)) (cancels-as s (ask_of e) ok room space) z low in
         takes-opposite s (ask_of e) ok room space r.entering quoting why r.left r.stopped)
         there
 

@@ -6,7 +6,7 @@ use mathlib.Core.Path.{◌≡◌, refl, sym, subst, ap, ◌∙◌}
 use mathlib.Core.Bool.{Bool, true, false, not}
 use mathlib.Core.List.{List, ◌∷◌, ◌++◌, map}
 use mathlib.Core.Logic.{◌⊎◌, inl, inr}
-use mathlib.Core.Option.{some}
+use Rattle.std.specs.Prelude.{Some}
 use native.Mathlib.Omega.{arith}
 use lib.Dec.{eqb}
 use lib.ListN.{length}
@@ -182,10 +182,10 @@ module _ (s : Series) (a : Ask) (ok : Accepted s a) (room : List ℕ) (space : r
     no-enable : a.kind ≡ 12 → ⊥
     no-enable k = clash q (rw k (stays_out 12 refl))
 
-    told_is : {rs : List Report} → (arrived s.terms (comer_of s a) l).records ≡ rs → reports_in h ≡ map some (rs ++ (settling_of s a).records)
+    told_is : {rs : List Report} → (arrived s.terms (comer_of s a) l).records ≡ rs → reports_in h ≡ map Some (rs ++ (settling_of s a).records)
     told_is e =
         accepted-told s a ok room space
-        ∙ ap (map some) (records-are ∙ ap (λ (rs : List Report). rs ++ (settling_of s a).records) (ap (λ (x : Ran (List Entry) Report). x.records) own_is ∙ e))
+        ∙ ap (map Some) (records-are ∙ ap (λ (rs : List Report). rs ++ (settling_of s a).records) (ap (λ (x : Ran (List Entry) Report). x.records) own_is ∙ e))
 
     pub takes_same : (why : ℕ) → rejection_of s a ≡ why → 1 ≤ why → why ≤ 24 → TakesSame s a why h
     takes_same why is stops high =

@@ -6,7 +6,7 @@ use mathlib.Core.Path.{◌≡◌}
 use mathlib.Core.Bool.{Bool, true, false, not}
 use mathlib.Core.List.{◌∷◌, ◌++◌, map}
 use mathlib.Core.Logic.{◌⊎◌}
-use mathlib.Core.Option.{some}
+use Rattle.std.specs.Prelude.{Some}
 use lib.ListN.{length}
 use Rattle.lists.specs.Places.{At}
 use Rattle.lists.specs.Tests.{All}
@@ -35,7 +35,7 @@ use Rattle.handler.proofs.Demands.{settling_of, reports_in, EachReport}
 pub record TradeIn (h : Handled) (n : ℕ) : Type 0 where
   pub place : ℕ
   pub report : Report
-  pub there : At (reports_in h) place (some report)
+  pub there : At (reports_in h) place (Some report)
   pub names : TradeNames n report
 
 -- it still rests, under its number, in the series left; or a report of a trade names it
@@ -48,7 +48,7 @@ Stays h n = Numbered (entries_of h.answer.series.book) n ⊎ TradeIn h n
 pub record TakesSame (s : Series) (a : Ask) (why : ℕ) (h : Handled) : Type 0 where
   -- the reports: its rejection; the cancellation of its maker's quote on the same side, with 30, if there was one; then those of settling,
   pub reports : reports_in h
-      ≡ map some (rejected why (comer_of s a) ∷ (cancels 30 (quote_in a.party a.sell (entries_of s.book)) ++ (settling_of s a).records))
+      ≡ map Some (rejected why (comer_of s a) ∷ (cancels 30 (quote_in a.party a.sell (entries_of s.book)) ++ (settling_of s a).records))
   -- which are trades and moves alone;
   pub settling : All TradesOrMoves (settling_of s a).records
   -- that quote is gone;
@@ -65,7 +65,7 @@ pub record TakesSame (s : Series) (a : Ask) (why : ℕ) (h : Handled) : Type 0 w
 pub record TakesBoth (s : Series) (a : Ask) (why : ℕ) (h : Handled) : Type 0 where
   -- the reports: its rejection; the cancellation of its maker's quotes, with 30, the buy first, where there were any; then those of settling,
   pub reports : reports_in h
-      ≡ map some (rejected why (comer_of s a) ∷ ((cancels 30 (quote_in a.party false (entries_of s.book))
+      ≡ map Some (rejected why (comer_of s a) ∷ ((cancels 30 (quote_in a.party false (entries_of s.book))
       ++ cancels 30 (quote_in a.party true (entries_of s.book))) ++ (settling_of s a).records))
   -- which are trades and moves alone;
   pub settling : All TradesOrMoves (settling_of s a).records
@@ -87,7 +87,7 @@ pub record TakesOpposite (s : Series) (a : Ask) (why : ℕ) (h : Handled) : Type
   -- the reports: the same-side quote that it replaced, with 27, if there was one; the trades; the rest, cancelled for this reason; its maker's quote on the
   -- opposite side, with 29, if there is one after the trades; then those of settling,
   pub reports : reports_in h
-      ≡ map some ((cancels 27 (quote_in a.party a.sell (entries_of s.book))
+      ≡ map Some ((cancels 27 (quote_in a.party a.sell (entries_of s.book))
       ++ ((trades_of s.terms (comer_of s a) (entries_of s.book)).records
       ++ (cancelled why (with_quantity (trades_of s.terms (comer_of s a) (entries_of s.book)).final.left (comer_of s a))
       ∷ cancels 29 (quote_in a.party (not a.sell) (trades_of s.terms (comer_of s a) (entries_of s.book)).final.book))))

@@ -1,14 +1,14 @@
 -- The ways out of the handler: under which tests `handled` is which answer. Each is cited where the code returns.
 -- Assumes nothing.
-use Prim.Native.Nat.{ℕ, ◌≤◌}
+use Prim.Native.Nat.{ℕ, ◌≤◌, ◌<◌}
 use mathlib.Core.Path.{◌≡◌, refl, sym, ap, ◌∙◌}
 use mathlib.Core.Bool.{Bool, true, false, cond, not}
 use mathlib.Core.List.{List}
-use mathlib.Core.Option.{Option, none, some}
+use Rattle.std.specs.Prelude.{Option, None, Some}
 use native.Mathlib.Omega.{arith}
 use lib.Dec.{eqb, ltb}
 use lib.ListN.{length}
-use borrow.Author.Tests.{le-ltb, ltb-false, eq-eqb, ne_eqb, eqb-true, eqb-false}
+use borrow.Author.Tests.{lt-ltb, le-ltb, ltb-false, eq-eqb, ne_eqb, eqb-true, eqb-false}
 use Rattle.packing.specs.declared.message.Event.{Event}
 use Rattle.packing.specs.Codec.{unpack_of}
 use Rattle.packing.specs.Message.{messages}
@@ -16,12 +16,11 @@ use Rattle.packing.specs.Room.{room_size}
 use Rattle.soundness.specs.declared.Check.{Check}
 use Rattle.series.specs.declared.Series.{Series}
 use Rattle.series.specs.Series.{sound_series}
-use Rattle.handler.specs.declared.Answer.{Answer}
 use Rattle.handler.specs.Asked.{ask_of}
 use Rattle.handler.specs.Refuse.{refusal_of}
 use Rattle.handler.specs.Acts.{Whole}
 use Rattle.series.specs.Checks.{Tested}
-use Rattle.handler.specs.Handle.{first_of, before_reading, in_room, refused, refused_or, accepted, judged, heard, handled_as, handled}
+use Rattle.handler.specs.Handle.{first_of, before_reading, refused, refused_or, accepted, judged, heard, handled_as, handled}
 
 module _ (s : Series) (message room : List ℕ) where
   module _ (space : room_size ≤ length room) where
@@ -31,10 +30,10 @@ module _ (s : Series) (message room : List ℕ) where
       handled-heard = rw (le-ltb (length room) room_size space, sound)
 
       -- "A message that unpacks to no event stops there with refusal 1."
-      pub handled-nothing : unpack_of messages message ≡ none → handled s message room ≡ refused 1 s room
+      pub handled-nothing : unpack_of messages message ≡ None → handled s message room ≡ refused 1 s room
       handled-nothing h = handled-heard ∙ ap (heard s room) h
 
-      module _ (e : Event) (read : unpack_of messages message ≡ some e) where
+      module _ (e : Event) (read : unpack_of messages message ≡ Some e) where
         pub handled-judged : handled s message room ≡ judged s (ask_of e) room (refusal_of s (ask_of e))
         handled-judged = handled-heard ∙ ap (heard s room) read
 
@@ -63,39 +62,38 @@ none-early space sound h = by (ltb space room_size) refl sound refl h
     by false p false q k = absurd (let z : ◌≡◌ {A = ℕ} 11 0 = k in omega arith)
     by false p true q k = (ltb-false space room_size p, refl)
 
--- what the code returns, once 10 and 11 are tested, by what the test of the series answers
-module _ (s : Series) (event : Option Event) (room : List ℕ) (why : ℕ) {check : Check} (tested : Tested s check)
-    (number : why ≡ first_of (ltb (length room) room_size) 10 (not check.ok) 11) where
-  is-early : why ≡ before_reading (length room) (sound_series s)
-  is-early = number ∙ ap (λ (b : Bool). first_of (ltb (length room) room_size) 10 (not b) 11) tested.verdict
+-- what the code returns
+module _ (s : Series) (event : Option Event) (room : List ℕ) where
+  -- 10 comes before all else
+  pub returns-short : ltb (length room) room_size ≡ true → refused 10 s room ≡ handled_as s event room
+  unfolding handled_as
+  returns-short h = rw h refl
 
-  pub returns-early : (why ≡ 0 → ⊥) → (r : Answer) → r ≡ record { refusal = why; count = 0; series = s } → in_room r room ≡ handled_as s event room
-  returns-early h r q =
-      ap (λ (z : Answer). in_room z room) q ∙ ap (λ (k : ℕ). refused k s room) is-early
-      ∙ sym (refused-early s event room (λ z. h (is-early ∙ z)))
-
-  module _ (h : why ≡ 0) where
-    roomy-sound : (room_size ≤ length room) × (sound_series s ≡ true)
-    roomy-sound = none-early (length room) (sound_series s) (sym is-early ∙ h)
-
-    pub admits-space : room_size ≤ length room
-    admits-space = roomy-sound.0
-
-    -- a sound series, and what the test of it has seen
-    pub admits-whole : length s.blocked ≡ 16 → Whole s check
-    admits-whole makers =
-        let ok : check.ok ≡ true = tested.verdict ∙ roomy-sound.1 in
-        record { sound = roomy-sound.1; well = (tested.checked ok).well ok; blocks = makers; seen = (tested.checked ok).summary ok }
-
-    as-heard : handled_as s event room ≡ heard s room event
+  -- by what the test of the series answers
+  module _ (space : ltb (length room) room_size ≡ false) where
+    pub returns-unsound : Tested s None → refused 11 s room ≡ handled_as s event room
     unfolding handled_as
-    as-heard = rw (le-ltb (length room) room_size roomy-sound.0, roomy-sound.1)
+    returns-unsound tested = rw (space, sym tested.verdict) refl
 
-    pub returns-unread : event ≡ none → (r : Answer) → r ≡ record { refusal = 1; count = 0; series = s } → in_room r room ≡ handled_as s event room
-    returns-unread u r q = ap (λ (z : Answer). in_room z room) q ∙ sym (as-heard ∙ ap (heard s room) u)
+    module _ {check : Check} (tested : Tested s (Some check)) where
+      is-sound : sound_series s ≡ true
+      is-sound = sym tested.verdict
 
-    pub returns-judged : (e : Event) → event ≡ some e → judged s (ask_of e) room (refusal_of s (ask_of e)) ≡ handled_as s event room
-    returns-judged e u = sym (as-heard ∙ ap (heard s room) u)
+      -- a sound series, and what the test of it has seen
+      pub admits : length s.blocked ≡ 16 → Whole s check
+      admits makers =
+          let k = tested.checked refl in
+          record { sound = is-sound; well = k.well refl; blocks = makers; seen = k.summary check refl }
+
+      as-heard : handled_as s event room ≡ heard s room event
+      unfolding handled_as
+      as-heard = rw (space, is-sound)
+
+      pub returns-unread : event ≡ None → refused 1 s room ≡ handled_as s event room
+      returns-unread u = sym (as-heard ∙ ap (heard s room) u)
+
+      pub returns-judged : (e : Event) → event ≡ Some e → judged s (ask_of e) room (refusal_of s (ask_of e)) ≡ handled_as s event room
+      returns-judged e u = sym (as-heard ∙ ap (heard s room) u)
 
 -- ---- the other way round ----
 
@@ -104,7 +102,7 @@ pub record Accepting (s : Series) (message room : List ℕ) : Type 0 where
   pub space : room_size ≤ length room
   pub sound : sound_series s ≡ true
   pub event : Event
-  pub read : unpack_of messages message ≡ some event
+  pub read : unpack_of messages message ≡ Some event
   pub passes : refusal_of s (ask_of event) ≡ 0
 
 never-0 : {A : Type 0} (n : ℕ) → 1 ≤ n → n ≡ 0 → A
@@ -115,7 +113,7 @@ module _ (s : Series) (message room : List ℕ) where
   unfolding handled handled_as
   accepting h = by (ltb (length room) room_size) refl (sound_series s) refl (unpack_of messages message) refl h
     where
-      judge : room_size ≤ length room → sound_series s ≡ true → (e : Event) → unpack_of messages message ≡ some e → (b : Bool)
+      judge : room_size ≤ length room → sound_series s ≡ true → (e : Event) → unpack_of messages message ≡ Some e → (b : Bool)
           → eqb (refusal_of s (ask_of e)) 0 ≡ b
           → (cond b (accepted s (ask_of e) room) (refused (refusal_of s (ask_of e)) s room)).answer.refusal ≡ 0 → Accepting s message room
       judge n g e r true q k = record { space = n; sound = g; event = e; read = r; passes = eqb-true (refusal_of s (ask_of e)) 0 q }
@@ -125,5 +123,5 @@ module _ (s : Series) (message room : List ℕ) where
           → (refused_or (first_of b 10 (not c) 11) s room (heard s room u)).answer.refusal ≡ 0 → Accepting s message room
       by true p c g u r k = never-0 10 (omega arith) k
       by false p false g u r k = never-0 11 (omega arith) k
-      by false p true g none r k = never-0 1 (omega arith) k
-      by false p true g (some e) r k = judge (ltb-false (length room) room_size p) g e r (eqb (refusal_of s (ask_of e)) 0) refl k
+      by false p true g None r k = never-0 1 (omega arith) k
+      by false p true g (Some e) r k = judge (ltb-false (length room) room_size p) g e r (eqb (refusal_of s (ask_of e)) 0) refl k

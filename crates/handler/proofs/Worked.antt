@@ -5,7 +5,7 @@ use Prim.Native.Nat.{ℕ}
 use mathlib.Core.Path.{◌≡◌, refl}
 use mathlib.Core.Bool.{true, false}
 use mathlib.Core.List.{[], ◌∷◌}
-use mathlib.Core.Option.{some}
+use Rattle.std.specs.Prelude.{Some}
 use lib.ListN.{replicate}
 use Rattle.lists.specs.Places.{without}
 use Rattle.lists.specs.Tests.{all, any, pairs}
@@ -92,7 +92,7 @@ pub record Worked : Type 0 where
   pub sound : sound_series series ≡ true
   pub settled_before : any_stirs (record { m = 1; bid = 220; offer = 235 }) (offer 221 220 ∷ bid 219 219 ∷ []) ≡ false
   -- the message is accepted
-  pub read : unpack_of messages (144 ∷ 0 ∷ 6 ∷ 232 ∷ 0 ∷ 0 ∷ 1 ∷ 214 ∷ 0 ∷ 0 ∷ 0 ∷ []) ≡ some (Away 221 235)
+  pub read : unpack_of messages (144 ∷ 0 ∷ 6 ∷ 232 ∷ 0 ∷ 0 ∷ 1 ∷ 214 ∷ 0 ∷ 0 ∷ 0 ∷ []) ≡ Some (Away 221 235)
   pub passes : refusal_of series (ask_of (Away 221 235)) ≡ 0
   -- both move, the sell first, and each goes last in rank
   pub moves : done terms (ask_of (Away 221 235)) (offer 221 220 ∷ bid 219 219 ∷ [])

@@ -1,7 +1,9 @@
 -- THE HANDLER: the answer, and every byte of the lent room, for every series, message and room.
 -- Assumes nothing.
-use Rattle.std.specs.Prelude.{ℕ, Bool, cond, not, List, eqb, ltb, length}
-use Rattle.std.proofs.Math.Option.{Option, none, some}
+use Rattle.std.specs.Prelude.{ℕ, Bool, cond, not, List, eqb, ltb, length, Result, Ok, Err}
+use Rattle.std.specs.Prelude.{Option, None, Some}
+use Rattle.kinds.specs.declared.refusal.Refusal.{Refusal}
+use Rattle.kinds.specs.Refusals.{number_of}
 use Rattle.packing.specs.declared.message.Event.{Event}
 use Rattle.packing.specs.Codec.{nothing, unpack_of}
 use Rattle.packing.specs.Message.{messages, message_at}
@@ -15,12 +17,27 @@ use Rattle.handler.specs.Asked.{ask_of}
 use Rattle.handler.specs.Refuse.{refusal_of}
 use Rattle.handler.specs.Accept.{done, series_after}
 
+-- what is answered: the refusal's number, 0 for none; the count; and the series afterwards
+pub record Answered : Type 0 where
+  pub refusal : ℕ
+  pub count : ℕ
+  pub series : Series
+
+-- what an accepted message is answered
+abbrev pub answered : Answer → Answered
+answered r = record { refusal = 0; count = r.count; series = r.series }
+
+-- "Each returns its number and count 0 and changes nothing": what a message is answered that was put to this series
+abbrev pub answer_of : Series → Result Answer Refusal → Answered
+answer_of s (Ok r) = answered r
+answer_of s (Err why) = record { refusal = number_of why; count = 0; series = s }
+
 -- an answer, with the room as it then is
 pub record Handled : Type 0 where
-  pub answer : Answer
+  pub answer : Answered
   pub room : List ℕ
 
-abbrev pub in_room : Answer → List ℕ → Handled
+abbrev pub in_room : Answered → List ℕ → Handled
 in_room r room = record { answer = r; room = room }
 
 -- "Each returns its number and count 0 and changes nothing."
@@ -43,8 +60,8 @@ judged s a room why = refused_or why s room (accepted s a room)
 
 -- "A message that unpacks to no event stops there with refusal 1."
 abbrev pub heard : Series → List ℕ → Option Event → Handled
-heard s room none = refused nothing s room
-heard s room (some e) = judged s (ask_of e) room (refusal_of s (ask_of e))
+heard s room None = refused nothing s room
+heard s room (Some e) = judged s (ask_of e) room (refusal_of s (ask_of e))
 
 -- the first of two refusals whose test holds; 0, if neither does
 abbrev pub first_of : Bool → ℕ → Bool → ℕ → ℕ

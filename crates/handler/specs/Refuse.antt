@@ -1,13 +1,13 @@
 -- The refusals that an event can meet, each test by document 01's words, and their order. "Tests on party and the like apply only to kinds that carry the
 -- field."
 -- Assumes nothing.
-use Rattle.std.specs.Prelude.{ℕ, ◌-◌, Bool, true, false, cond, not, ◌&&◌, List, [], ◌∷◌, eqb, leb, length, get_or}
+use Rattle.std.specs.Prelude.{ℕ, Option, Some, None, ◌-◌, Bool, true, false, cond, not, ◌&&◌, List, [], ◌∷◌, eqb, leb, length, get_or, Result, Ok, Err}
+use Rattle.kinds.specs.declared.refusal.Refusal.{Refusal}
+use Rattle.kinds.specs.Refusals.{number_of}
 use Rattle.prices.specs.Step.{legal, none_or_legal}
 use Rattle.lists.specs.Choose.{Found, nowhere, found}
 use Rattle.lists.specs.Tests.{any, first_holding}
 use Rattle.book.specs.declared.Entry.{Entry}
-use Rattle.book.specs.declared.Rank.{Rank}
-use Rattle.book.specs.declared.Rank.TheVariants.{At, Nowhere}
 use Rattle.book.specs.Entries.{quote_of, last_number}
 use Rattle.book.specs.Shape.{entries_of}
 use Rattle.book.specs.Look.{entry_of, quote_in}
@@ -55,14 +55,19 @@ is_nowhere nowhere = true
 is_nowhere (found i e) = false
 
 -- the same of the rank that was answered
-abbrev pub gone_at : Rank → Bool
-gone_at Nowhere = true
-gone_at (At i) = false
+abbrev pub gone_at : Option ℕ → Bool
+gone_at None = true
+gone_at (Some i) = false
 
 abbrev pub is_missing : List Entry → Ask → Bool
 is_missing l a =
     cond (cancels_entry a.kind) (is_nowhere (entry_of a.party a.entry l))
     (cond (cancels_quote a.kind) (is_nowhere (quote_in a.party a.sell l)) false)
+
+-- what is refused, by its number; 0, where nothing is
+abbrev pub refusal_in : {T : Type 0} → Result T Refusal → ℕ
+refusal_in (Ok x) = 0
+refusal_in (Err why) = number_of why
 
 -- THE LIST, in document 01's order, from 2 on: 10, 11 and 1, which come before an event is known, stand in Handle (`before_reading`, `heard`)
 abbrev pub refusals : Series → Ask → List (ℕ × Bool)
@@ -77,5 +82,6 @@ refusals s a =
     ∷ (8, is_missing (entries_of s.book) a)
     ∷ []
 
+-- the number of the first that holds; 0, where none does
 unfoldable pub refusal_of : Series → Ask → ℕ
 refusal_of s a = first_holding (refusals s a)

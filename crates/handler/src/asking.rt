@@ -8,6 +8,17 @@ use crate::Ask;
 use book::{Entry, Pricing};
 use packing::message::{Entering, Event};
 
+// No field is named.
+const NONE: Ask = Ask {
+    kind: 0,
+    party: 0,
+    sell: false,
+    price: 0,
+    quantity: 0,
+    second: 0,
+    entry: 0,
+};
+
 // Kinds 1 to 6.
 fn ask_to_enter(kind: u32, t: Entering) -> Ask
     ensures { result ≡ ask_to_enter kind t }
@@ -18,31 +29,7 @@ fn ask_to_enter(kind: u32, t: Entering) -> Ask
         sell: t.sell,
         price: t.price,
         quantity: t.quantity,
-        second: 0,
-        entry: 0,
-    }
-}
-
-// Kinds 7 to 12.
-fn ask_for(
-    kind: u32,
-    party: u32,
-    sell: bool,
-    price: u32,
-    quantity: u32,
-    second: u32,
-    entry: u32,
-) -> Ask
-    ensures { result ≡ record { kind = kind; party = party; sell = sell; price = price; quantity = quantity; second = second; entry = entry } }
-{
-    Ask {
-        kind,
-        party,
-        sell,
-        price,
-        quantity,
-        second,
-        entry,
+        ..NONE
     }
 }
 
@@ -57,12 +44,39 @@ pub fn ask_of(event: Event) -> Ask
         Event::Mmrp(t) => ask_to_enter(4, t),
         Event::Displayed(t) => ask_to_enter(5, t),
         Event::Dark(t) => ask_to_enter(6, t),
-        Event::CancelEntry { party, entry } => ask_for(7, party, false, 0, 0, 0, entry),
-        Event::CancelQuote { party, sell } => ask_for(8, party, sell, 0, 0, 0, 0),
-        Event::Away { bid, offer } => ask_for(9, 0, false, bid, 0, offer, 0),
-        Event::Underlying { price } => ask_for(10, 0, false, price, 0, 0, 0),
-        Event::Phase { phase } => ask_for(11, 0, false, 0, phase, 0, 0),
-        Event::Enable { party } => ask_for(12, party, false, 0, 0, 0, 0),
+        Event::CancelEntry { party, entry } => Ask {
+            kind: 7,
+            party,
+            entry,
+            ..NONE
+        },
+        Event::CancelQuote { party, sell } => Ask {
+            kind: 8,
+            party,
+            sell,
+            ..NONE
+        },
+        Event::Away { bid, offer } => Ask {
+            kind: 9,
+            price: bid,
+            second: offer,
+            ..NONE
+        },
+        Event::Underlying { price } => Ask {
+            kind: 10,
+            price,
+            ..NONE
+        },
+        Event::Phase { phase } => Ask {
+            kind: 11,
+            quantity: phase,
+            ..NONE
+        },
+        Event::Enable { party } => Ask {
+            kind: 12,
+            party,
+            ..NONE
+        },
     }
 }
 

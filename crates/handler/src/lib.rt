@@ -19,9 +19,9 @@ pub struct Ask {
     pub entry: u32,
 }
 
+// What a message that nothing refuses is answered: how many reports stand in the room, and the series afterwards.
 #[derive(Clone, Copy)]
 pub struct Answer {
-    pub refusal: u32,
     pub count: usize,
     pub series: Series,
 }

@@ -3,12 +3,14 @@ ghost use Rattle.std.specs.Prelude.{◌≡◌, true, false, length};
 ghost use Rattle.prices.specs.Step.{mpv};
 ghost use Rattle.book.specs.Shape.{entries_of, WellFormed};
 ghost use Rattle.soundness.specs.Summary.{Summary};
-ghost use Rattle.handler.specs.Refuse.{bad_party, bad_price, bad_quantity, not_open, is_blocked, is_full, is_spent, is_missing, gone_at, refusal_of};
+ghost use Rattle.handler.specs.Refuse.{bad_party, bad_price, bad_quantity, not_open, is_blocked, is_full, is_spent, is_missing, gone_at};
+ghost use Rattle.handler.specs.Refuse.{refusal_in, refusal_of};
 
 use crate::Ask;
+use book::Book;
 use book::entries::LAST_NUMBER;
 use book::find::find_entry;
-use book::{Book, Rank};
+use kinds::refusal::{Refusal, refuse_if};
 use kinds::{
     AWAY, CANCEL_ENTRY, CANCEL_QUOTE, PHASE, UNDERLYING, is_carrying, is_entering, is_makers,
     is_quoting,
@@ -83,13 +85,10 @@ fn is_blocked(s: Series, a: Ask) -> bool
     false
 }
 
-fn is_gone(rank: Rank) -> bool
+fn is_gone(rank: Option<usize>) -> bool
     ensures { result ≡ gone_at rank }
 {
-    match rank {
-        Rank::At(_) => false,
-        Rank::Nowhere => true,
-    }
+    rank.is_none()
 }
 
 // 7: 64 entries rest, not counting the quote that this one replaces.
@@ -137,39 +136,22 @@ fn is_missing(b: Book, check: Check, a: Ask) -> bool
     false
 }
 
-// The number of the first test that holds, 0 where none does.
-pub fn refusal_of(s: Series, check: Check, a: Ask) -> u32
+// The first test that holds refuses.
+pub fn refusal_of(s: Series, check: Check, a: Ask) -> Result<(), Refusal>
     requires m_value { mpv s.terms.m ≡ true }
     requires well_formed { WellFormed s.book }
     requires blocked_len { length s.blocked ≡ 16 }
     requires summary { Summary (entries_of s.book) check }
-    ensures { result ≡ refusal_of s a }
+    ensures { refusal_in result ≡ refusal_of s a }
 {
     let t = s.terms;
     let b = s.book;
-    if is_bad_party(a) {
-        return 2;
-    }
-    if is_bad_price(t.m, a) {
-        return 3;
-    }
-    if is_bad_quantity(a) {
-        return 4;
-    }
-    if is_not_open(t.phase, a) {
-        return 5;
-    }
-    if is_blocked(s, a) {
-        return 6;
-    }
-    if is_full(b, check, a) {
-        return 7;
-    }
-    if is_spent(t.given, a) {
-        return 9;
-    }
-    if is_missing(b, check, a) {
-        return 8;
-    }
-    0
+    refuse_if(is_bad_party(a), Refusal::Party)?;
+    refuse_if(is_bad_price(t.m, a), Refusal::Price)?;
+    refuse_if(is_bad_quantity(a), Refusal::Quantity)?;
+    refuse_if(is_not_open(t.phase, a), Refusal::NotOpen)?;
+    refuse_if(is_blocked(s, a), Refusal::Blocked)?;
+    refuse_if(is_full(b, check, a), Refusal::Full)?;
+    refuse_if(is_spent(t.given, a), Refusal::Spent)?;
+    refuse_if(is_missing(b, check, a), Refusal::Missing)
 }

@@ -1,5 +1,8 @@
 // The kinds of messages and entries, and what is so of each: the one table that every rule asks (specs/Kinds).
-#![tactic(auto)]
+// A kind is a number and no enum: an entry of a state that is handed in has any byte for its kind, and what is promised here is promised of every number.
+#![tactic(auto, using(std::proofs::lemmas::Bool::Decides::nat_tests), unfolding(crate::specs::Kinds::row_of))]
+
+pub mod refusal;
 
 ghost use Rattle.std.specs.Prelude.{◌≡◌};
 ghost use Rattle.kinds.specs.Kinds.{enters, quotes, sliding, minds, dark, light, carries, makers, asked};
@@ -21,20 +24,20 @@ pub const ENABLE: u32 = 12;
 pub fn is_entering(kind: u32) -> bool
     ensures { result ≡ enters kind }
 {
-    (kind == 1) | ((kind == 2) | ((kind == 3) | ((kind == 4) | ((kind == 5) | (kind == 6)))))
+    matches!(kind, 1..=6)
 }
 
 pub fn is_quoting(kind: u32) -> bool
     ensures { result ≡ quotes kind }
 {
-    (kind == 1) | ((kind == 2) | ((kind == 3) | (kind == 4)))
+    matches!(kind, 1..=4)
 }
 
 // It has a display price apart from its limit.
 pub fn is_sliding(kind: u32) -> bool
     ensures { result ≡ sliding kind }
 {
-    (kind == 3) | (kind == 4)
+    matches!(kind, 3..=4)
 }
 
 // It has the contra price among its bounds, and never takes.
@@ -62,28 +65,19 @@ pub fn is_light(kind: u32) -> bool
 pub fn is_carrying(kind: u32) -> bool
     ensures { result ≡ carries kind }
 {
-    (kind == 1)
-        | ((kind == 2)
-            | ((kind == 3)
-                | ((kind == 4)
-                    | ((kind == 5)
-                        | ((kind == 6)
-                            | ((kind == CANCEL_ENTRY)
-                                | ((kind == CANCEL_QUOTE) | (kind == ENABLE))))))))
+    matches!(kind, 1..=6 | CANCEL_ENTRY | CANCEL_QUOTE | ENABLE)
 }
 
 // And one of the makers.
 pub fn is_makers(kind: u32) -> bool
     ensures { result ≡ makers kind }
 {
-    (kind == 1)
-        | ((kind == 2)
-            | ((kind == 3) | ((kind == 4) | ((kind == CANCEL_QUOTE) | (kind == ENABLE)))))
+    matches!(kind, 1..=4 | CANCEL_QUOTE | ENABLE)
 }
 
 // Its aims may be asked for by number.
 pub fn is_asked(kind: u32) -> bool
     ensures { result ≡ asked kind }
 {
-    (kind == 3) | (kind == 4)
+    matches!(kind, 3..=4)
 }

@@ -2,7 +2,7 @@
 use Prim.Native.Nat.{ℕ, zero, suc, ◌+◌, ◌*◌, ◌^◌, ◌≤◌, ◌<◌}
 use mathlib.Core.Bool.{Bool, true, false, cond}
 use mathlib.Core.List.{List, [], ◌∷◌, ◌++◌, map}
-use mathlib.Core.Option.{Option, none, some}
+use Rattle.std.specs.Prelude.{Option, None, Some}
 use mathlib.Core.Path.{◌≡◌, refl, ap, ap₂}
 use native.Mathlib.Nat.{pow-le-pow_right}
 use native.Mathlib.Omega.{arith}
@@ -61,8 +61,8 @@ place_short : (number : ℕ) (s : List ℕ) → number < 2 ^ 64 → Bytes s → 
 place_short number s n b = by_cases (unpack_of reports s) refl
   where
     by_cases : (u : Option Report) → unpack_of reports s ≡ u → length (line_of number u) ≤ longest_line
-    by_cases none e = omega arith
-    by_cases (some r) e = report-short number r n (packed-bytes reports r s (unpack-pack reports lawful s r b e)).0
+    by_cases None e = omega arith
+    by_cases (Some r) e = report-short number r n (packed-bytes reports r s (unpack-pack reports lawful s r b e)).0
 
 lines-short : (number count : ℕ) (room : List ℕ) → number < 2 ^ 64 → Bytes room → length (report_lines number (read_back count room)) ≤ longest_line * count
 lines-short number zero room n b = omega arith
@@ -145,6 +145,6 @@ answered-counts out at number refusal count room {after} {end} n r b p = (
 
 -- THEOREM. Of an accepted message whose reports stand in the room the lines of just these reports are printed, in their order
 pub answer-reports : (number : ℕ) (room : List ℕ) (rs : List Report) → AllPack rs → 14 * length rs ≤ length room
-    → answer_text number 0 (length rs) (written room 0 rs) ≡ report_lines number (map some rs)
+    → answer_text number 0 (length rs) (written room 0 rs) ≡ report_lines number (map Some rs)
 unfolding answer_text
 answer-reports number room rs h k = ap (report_lines number) (reports-read-back room 0 rs h (omega arith))

@@ -1,6 +1,6 @@
 -- What the session program prints: document 01, "Class examples".
 use Rattle.std.specs.Prelude.{ℕ, ◌^◌, ◌<◌, cond, List, [], ◌∷◌, ◌++◌, eqb}
-use Rattle.std.proofs.Math.Option.{Option, none, some}
+use Rattle.std.specs.Prelude.{Option, None, Some}
 use Rattle.packing.specs.declared.report.Report.{Report}
 use Rattle.packing.specs.Report.{fields_of}
 use Rattle.packing.specs.Room.{read_back}
@@ -41,8 +41,8 @@ refusal_line number refusal = decimal number ++ refused_word ++ decimal refusal 
 
 -- the line of what stands at a place of the room: none, where no report does
 abbrev pub line_of : ℕ → Option Report → List ℕ
-line_of number none = []
-line_of number (some report) = report_line number report
+line_of number None = []
+line_of number (Some report) = report_line number report
 
 abbrev pub report_lines : ℕ → List (Option Report) → List ℕ
 report_lines number [] = []

@@ -1,20 +1,17 @@
 -- Loops `while i < n` over the first n elements of an array. A loop's invariant is one equation, "what is left gives from here what the whole
 -- gives from the start", kept in a record with laws for the start, a turn and the end.
 -- Assumes nothing.
-use Prim.Native.Nat.{ℕ, ◌+◌, ◌≤◌, ◌<◌}
+use Prim.Native.Nat.{ℕ, zero, suc, ◌+◌, ◌≤◌, ◌<◌}
 use mathlib.Core.Path.{◌≡◌, refl, sym, ap, ◌∙◌}
-use mathlib.Core.Bool.{Bool, true, false, cond, ◌&&◌, ◌||◌}
+use mathlib.Core.Bool.{Bool, true, false, ◌&&◌, ◌||◌}
 use mathlib.Core.List.{List, [], ◌∷◌}
 use native.Mathlib.Numerals.{add-one}
 use native.Mathlib.Omega.{arith}
-use lib.ListN.{length, take, drop, get_or, set, length-take, length-set, drop_of_length-le}
-use lib.Seq.{drop-cons, get_or-take, length-take-le, drop-set-lt, take-set-lt}
-use Rattle.lists.specs.Places.{without}
-use borrow.Author.Tests.{lt-ltb, le-ltb}
+use lib.ListN.{length, take, drop, get_or, length-take, drop_of_length-le}
+use lib.Seq.{drop-cons, get_or-take, length-take-le}
+use Rattle.std.specs.List.{fold}
 use Rattle.lists.specs.Tests.{all, any}
-use Rattle.lists.specs.Choose.{scan, Found, nowhere, found, consider, choosing, first, lesser, keyed, never}
-use Rattle.lists.proofs.PlaceLaws.{without-shift}
-use Rattle.lists.proofs.ChooseLaws.{found-stays}
+use Rattle.lists.specs.Choose.{scan}
 
 module _ {A : Type 0} where
   -- what is left begins with the element at place i; at the end nothing is left
@@ -48,74 +45,25 @@ module _ {A S : Type 0} {turn : S → ℕ → A → S} {s₀ : S} {es : List A} 
   unfolding scan
   scan-done {s} {i} v h = sym (ap (scan turn s i) (none_left es n i h)) ∙ v.left
 
--- ---- a loop that looks for the first that passes, and leaves when it has it ----
+module _ {A S : Type 0} where
+  -- the same of a loop that knows what it has read: one more is read
+  scan-on : (turn : S → ℕ → A → S) (s : S) (j : ℕ) (l : List A) (i : ℕ) (d : A) → i < length l
+      → scan turn s j (take (suc i) l) ≡ turn (scan turn s j (take i l)) (i + j) (get_or l i d)
+  unfolding scan
+  scan-on turn s j [] i d h = absurd (omega arith)
+  scan-on turn s j (x ∷ l) zero d h = let place : 0 + j ≡ j = omega arith in rw place refl
+  scan-on turn s j (x ∷ l) (suc i) d h =
+      let place : suc i + j ≡ i + (j + 1) = omega arith in rw place (scan-on turn (turn s j x) (j + 1) l i d (omega arith))
 
-module _ {A : Type 0} (test : A → Bool) (es : List A) (n : ℕ) where
-  abbrev pub Searching : ℕ → Type 0
-  Searching i = Scanning (choosing test never) nowhere es n nowhere i
+  pub scan-more : (turn : S → ℕ → A → S) (s : S) (l : List A) (i : ℕ) (d : A) → i < length l
+      → scan turn s 0 (take (i + 1) l) ≡ turn (scan turn s 0 (take i l)) i (get_or l i d)
+  scan-more turn s l i d h = let place : i + 0 ≡ i = omega arith in rw add-one (rw place at (scan-on turn s 0 l i d h))
 
-  pub search-past : (i : ℕ) (d : A) → Searching i → n ≤ length es → i < n → test (get_or es i d) ≡ false → Searching (i + 1)
-  search-past i d v fits h e = scan-turn nowhere d v fits h (rw e)
-
-  pub search-hit : (i : ℕ) (d : A) → Searching i → n ≤ length es → i < n → test (get_or es i d) ≡ true → found i (get_or es i d) ≡ first test never (take n es)
-  unfolding first
-  search-hit i d v fits h e =
-      let w : Scanning (choosing test never) nowhere es n (found i (get_or es i d)) (i + 1) = scan-turn (found i (get_or es i d)) d v fits h (rw e) in
-      sym (found-stays test i (i + 1) (get_or es i d) (drop (i + 1) (take n es))) ∙ w.left
-
-  pub search-none : (i : ℕ) → Searching i → n ≤ i → nowhere ≡ first test never (take n es)
-  unfolding first
-  search-none i v h = scan-done v h
-
--- ---- a loop that looks for the first least key, by a key and a place held; `none` stands above all keys ----
-
--- what is held of a search so far
-pub data Held {A : Type 0} (none : ℕ) (key : A → ℕ) : Found A → ℕ → ℕ → Type 0 where
-  nothing : {at : ℕ} → Held none key nowhere none at
-  something : {i : ℕ} {x : A} → key x < none → Held none key (found i x) (key x) i
-
-module _ {A : Type 0} (none : ℕ) (key : A → ℕ) where
-  taken-held : (f : Found A) (k at i : ℕ) (x : A) (b : Bool) → (b ≡ true → key x < none) → Held none key f k at → cond b (key x) none < k
-      → Held none key (consider (lesser key) b i x f) (cond b (key x) none) i
-  taken-held nowhere k at i x false h nothing q = absurd (omega arith)
-  taken-held nowhere k at i x true h nothing q = something (h refl)
-  taken-held (found j y) k at i x false h (something l) q = absurd (omega arith)
-  taken-held (found j y) k at i x true h (something l) q = rw (lt-ltb (key x) (key y) q) (something (h refl))
-
-  kept-held : (f : Found A) (k at i : ℕ) (x : A) (b : Bool) → (b ≡ true → key x < none) → Held none key f k at → k ≤ cond b (key x) none
-      → Held none key (consider (lesser key) b i x f) k at
-  kept-held f k at i x false h e q = e
-  kept-held nowhere k at i x true h nothing q = absurd (omega (arith, h refl))
-  kept-held (found j y) k at i x true h (something l) q = rw (le-ltb (key x) (key y) q) (something l)
-
-pub record Lowering {A : Type 0} (none : ℕ) (test : A → Bool) (key : A → ℕ) (es : List A) (n k at i : ℕ) : Type 0 where
-  pub so_far : Found A
-  pub held : Held none key so_far k at
-  pub scanning : Scanning (choosing test (lesser key)) nowhere es n so_far i
-
-module _ {A : Type 0} {none : ℕ} {test : A → Bool} {key : A → ℕ} {es : List A} {n : ℕ} where
-  pub lower-start : (at : ℕ) → Lowering none test key es n none at 0
-  lower-start at = record { so_far = nowhere; held = nothing; scanning = scan-start }
-
-  module _ {k at i : ℕ} (d : A) (v : Lowering none test key es n k at i) (fits : n ≤ length es) (inside : i < n)
-      (small : test (get_or es i d) ≡ true → key (get_or es i d) < none) where
-    pub lower-taken : keyed none test key (get_or es i d) < k → Lowering none test key es n (keyed none test key (get_or es i d)) i (i + 1)
-    lower-taken q = record {
-      so_far = choosing test (lesser key) v.so_far i (get_or es i d);
-      held = taken-held none key v.so_far k at i (get_or es i d) (test (get_or es i d)) small v.held q;
-      scanning = scan-turn (choosing test (lesser key) v.so_far i (get_or es i d)) d v.scanning fits inside refl;
-    }
-
-    pub lower-kept : k ≤ keyed none test key (get_or es i d) → Lowering none test key es n k at (i + 1)
-    lower-kept q = record {
-      so_far = choosing test (lesser key) v.so_far i (get_or es i d);
-      held = kept-held none key v.so_far k at i (get_or es i d) (test (get_or es i d)) small v.held q;
-      scanning = scan-turn (choosing test (lesser key) v.so_far i (get_or es i d)) d v.scanning fits inside refl;
-    }
-
-  pub lower-done : {k at i : ℕ} → Lowering none test key es n k at i → n ≤ i → Held none key (first test (lesser key) (take n es)) k at
-  unfolding first
-  lower-done {k} {at} v h = rw (← scan-done v.scanning h) v.held
+  -- turns that ask nothing of the place are a fold
+  pub scan-fold : (turn : S → A → S) (s : S) (j : ℕ) (l : List A) → scan (λ (r : S) (_ : ℕ) (x : A). turn r x) s j l ≡ fold turn s l
+  unfolding scan
+  scan-fold turn s j [] = refl
+  scan-fold turn s j (x ∷ l) = scan-fold turn (turn s x) (j + 1) l
 
 -- ---- a loop that looks whether every element from a place on passes, and leaves at the first that does not ----
 
@@ -165,22 +113,3 @@ module _ {A : Type 0} (test : A → Bool) (es : List A) (n : ℕ) where
   pub ask-none : (i : ℕ) → Asking i → n ≤ i → false ≡ any test (take n es)
   unfolding any
   ask-none i v h = sym (ap (any test) (none_left es n i h)) ∙ v.left
-
--- ---- a loop that closes the gap at place i of the first n: taking j out of what stands now is taking i out of what stood ----
-
-pub record Closing {A : Type 0} (i n : ℕ) (was : List A) (j : ℕ) (es : List A) : Type 0 where
-  pub places : length es ≡ length was
-  pub rest : drop n es ≡ drop n was
-  pub list : without j (take n es) ≡ without i (take n was)
-
-module _ {A : Type 0} where
-  pub close_more : (i n : ℕ) (was : List A) (j : ℕ) (es : List A) (d : A) → Closing i n was j es → n ≤ length was → j + 1 < n
-      → Closing i n was (j + 1) (set es j (get_or es (j + 1) d))
-  close_more i n was j es d v fits h =
-      let before : j < n = omega arith in
-      let inside : j + 1 < length (take n es) = rw (length-take, v.places) (omega arith) in
-      record {
-        places = length-set es j (get_or es (j + 1) d) ∙ v.places;
-        rest = drop-set-lt n es j (get_or es (j + 1) d) before ∙ v.rest;
-        list = rw (take-set-lt n es j (get_or es (j + 1) d) before, ← get_or-take n es (j + 1) d h) (without-shift (take n es) j d inside ∙ v.list);
-      }

@@ -1,14 +1,14 @@
 -- Laws of places: what taking out, appending and changing one element do.
 -- Assumes nothing.
-use Prim.Native.Nat.{ℕ, zero, suc, ◌+◌, ◌-◌, ◌≤◌, ◌<◌}
+use Prim.Native.Nat.{ℕ, zero, suc, ◌+◌, ◌-◌, ◌<◌}
 use mathlib.Core.Path.{◌≡◌, refl, sym, ap, ◌∙◌}
 use mathlib.Core.Logic.{◌⊎◌, inl, inr}
-use mathlib.Core.List.{List, [], ◌∷◌, ◌++◌, append-nil}
+use mathlib.Core.List.{List, [], ◌∷◌, ◌++◌}
 use native.Mathlib.Nat.{sub-zero, zero-sub, suc-sub-suc}
 use native.Mathlib.Numerals.{add-one}
 use native.Mathlib.Omega.{arith}
-use lib.ListN.{length, take, drop, get_or, set, replicate, length-take, drop_of_length-le}
-use lib.Seq.{drop-drop, drop-cons, take-suc-set, drop-set-lt, take-take, append_snoc}
+use lib.ListN.{length, take, drop, get_or, replicate}
+use lib.Seq.{drop-drop}
 use Rattle.lists.specs.Places.{At, without}
 
 module _ {A : Type 0} where
@@ -76,22 +76,6 @@ module _ {A : Type 0} where
       go (suc i) [] = refl
       go zero (x ∷ l) = refl
       go (suc i) (x ∷ l) = ap (λ (r : List A). x ∷ r) (go i l)
-
-  -- taking j out is taking j + 1 out once the element there has been copied down: a turn of the loop that closes a gap
-  pub without-shift : (l : List A) (j : ℕ) (d : A) → j + 1 < length l → without (j + 1) (set l j (get_or l (j + 1) d)) ≡ without j l
-  without-shift l j d h =
-      let here : j < length l = omega arith in
-      let past : j < j + 1 + 1 = omega arith in
-      let head : take (j + 1) (set l j (get_or l (j + 1) d)) ≡ take j l ++ (get_or l (j + 1) d ∷ []) = rw (add-one j, take-suc-set) refl in
-      let tail : drop (j + 1) l ≡ get_or l (j + 1) d ∷ drop (j + 1 + 1) l = drop-cons l (j + 1) d h ∙ rw (add-one (j + 1)) refl in
-      without-parts (j + 1) (set l j (get_or l (j + 1) d)) ∙ rw (head, drop-set-lt, append_snoc) (sym (without-parts j l ∙ rw tail refl))
-
-  -- taking out the last of the first k + 1 leaves the first k
-  pub without-last : (l : List A) (k : ℕ) → k + 1 ≤ length l → without k (take (k + 1) l) ≡ take k l
-  without-last l k h =
-      let short : length (take (k + 1) l) ≤ k + 1 = simp length-take (omega arith) in
-      let le : k ≤ k + 1 = omega arith in
-      without-parts k (take (k + 1) l) ∙ rw (take-take k (k + 1) l le, drop_of_length-le (take (k + 1) l) short, append-nil) refl
 
   -- ---- runs of one value ----
 

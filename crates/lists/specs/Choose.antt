@@ -1,6 +1,6 @@
 -- Reading a list from the front, and choosing one of its elements.
 -- Assumes nothing.
-use Rattle.std.specs.Prelude.{ℕ, ◌+◌, Bool, true, false, cond, List, [], ◌∷◌, ltb}
+use Rattle.std.specs.Prelude.{ℕ, Option, Some, None, ◌+◌, Bool, true, false, cond, List, [], ◌∷◌, ltb}
 
 -- a state carried from element to element; each turn knows the place it is at
 unfoldable pub scan : {A S : Type 0} → (S → ℕ → A → S) → S → ℕ → List A → S
@@ -38,6 +38,6 @@ module _ {A : Type 0} where
   abbrev pub never : A → A → Bool
   never x y = false
 
-  -- an element's key if it passes; `none` is a number above all keys
-  abbrev pub keyed : ℕ → (A → Bool) → (A → ℕ) → A → ℕ
-  keyed none test key x = cond (test x) (key x) none
+  -- an element's key if it passes
+  abbrev pub keyed : (A → Bool) → (A → ℕ) → A → Option ℕ
+  keyed test key x = cond (test x) (Some (key x)) None

@@ -2,7 +2,7 @@
 use Prim.Native.Nat.{ℕ, ◌+◌, ◌<◌}
 use mathlib.Core.Bool.{Bool}
 use mathlib.Core.List.{List}
-use mathlib.Core.Option.{Option, none, some}
+use Rattle.std.specs.Prelude.{Option, None, Some}
 use mathlib.Core.Path.{◌≡◌, refl, sym, ap}
 use native.Mathlib.Omega.{arith}
 use lib.Dec.{eqb}
@@ -12,17 +12,15 @@ use Rattle.packing.specs.declared.message.Entering.{Entering}
 use Rattle.packing.specs.declared.message.Event.{Event}
 use Rattle.packing.specs.declared.message.Event.TheVariants.{Plain, Mmlo, Mmalo, Mmrp, Displayed, Dark, CancelEntry}
 use Rattle.packing.specs.declared.message.Event.TheVariants.{CancelQuote, Away, Underlying, Phase, Enable}
-use Rattle.packing.specs.declared.message.Unpacked.{Unpacked}
-use Rattle.packing.specs.declared.message.Unpacked.TheVariants.{Message, Nothing}
 use Rattle.packing.specs.Codec.{bit, look_up, answer_of, unpack_of}
-use Rattle.packing.specs.Message.{code_of, by_kind, claimed_by, messages, message_at, unpacked, event_in, said_by}
+use Rattle.packing.specs.Message.{code_of, by_kind, claimed_by, messages, message_at, said_by}
 use Rattle.packing.proofs.CodecLaws.{Lawful, bit_is, Answer, right, unpack-short}
 
--- no other kind is in the table
+-- no other kind is in the table: the code finds this by itself, and docs/RULES cites it
 pub unknown-kind : (k : ℕ) (t : Entering) (second entry : ℕ)
     → (k ≡ 1 → ⊥) → (k ≡ 2 → ⊥) → (k ≡ 3 → ⊥) → (k ≡ 4 → ⊥) → (k ≡ 5 → ⊥) → (k ≡ 6 → ⊥)
     → (k ≡ 7 → ⊥) → (k ≡ 8 → ⊥) → (k ≡ 9 → ⊥) → (k ≡ 10 → ⊥) → (k ≡ 11 → ⊥) → (k ≡ 12 → ⊥)
-    → look_up k (by_kind t second entry) ≡ none
+    → look_up k (by_kind t second entry) ≡ None
 unfolding by_kind
 unknown-kind k t second entry n1 n2 n3 n4 n5 n6 n7 n8 n9 n10 n11 n12 =
     simp (
@@ -44,16 +42,16 @@ unknown-kind k t second entry n1 n2 n3 n4 n5 n6 n7 n8 n9 n10 n11 n12 =
 terms-claimed : (t : Entering) → ◌≡◌ {A = Entering} (record { party = t.party; sell = eqb (bit t.sell) 1; price = t.price; quantity = t.quantity }) t
 terms-claimed t i = record { party = t.party; sell = bit_is t.sell i; price = t.price; quantity = t.quantity }
 
-code-claimed : (e : Event) → claimed_by (code_of e) ≡ some e
+code-claimed : (e : Event) → claimed_by (code_of e) ≡ Some e
 unfolding by_kind
-code-claimed (Plain t) = ap (λ (u : Entering). some (Plain u)) (terms-claimed t)
-code-claimed (Mmlo t) = ap (λ (u : Entering). some (Mmlo u)) (terms-claimed t)
-code-claimed (Mmalo t) = ap (λ (u : Entering). some (Mmalo u)) (terms-claimed t)
-code-claimed (Mmrp t) = ap (λ (u : Entering). some (Mmrp u)) (terms-claimed t)
-code-claimed (Displayed t) = ap (λ (u : Entering). some (Displayed u)) (terms-claimed t)
-code-claimed (Dark t) = ap (λ (u : Entering). some (Dark u)) (terms-claimed t)
+code-claimed (Plain t) = ap (λ (u : Entering). Some (Plain u)) (terms-claimed t)
+code-claimed (Mmlo t) = ap (λ (u : Entering). Some (Mmlo u)) (terms-claimed t)
+code-claimed (Mmalo t) = ap (λ (u : Entering). Some (Mmalo u)) (terms-claimed t)
+code-claimed (Mmrp t) = ap (λ (u : Entering). Some (Mmrp u)) (terms-claimed t)
+code-claimed (Displayed t) = ap (λ (u : Entering). Some (Displayed u)) (terms-claimed t)
+code-claimed (Dark t) = ap (λ (u : Entering). Some (Dark u)) (terms-claimed t)
 code-claimed (CancelEntry party entry) = refl
-code-claimed (CancelQuote party sell) = ap (λ (s : Bool). some (CancelQuote party s)) (bit_is sell)
+code-claimed (CancelQuote party sell) = ap (λ (s : Bool). Some (CancelQuote party s)) (bit_is sell)
 code-claimed (Away bid offer) = refl
 code-claimed (Underlying price) = refl
 code-claimed (Phase phase) = refl
@@ -62,30 +60,17 @@ code-claimed (Enable party) = refl
 pub lawful : Lawful messages
 lawful = record { whole = refl; long = refl; code-claimed = code-claimed }
 
--- an answer in Rattle's type holds what was unpacked, and says which it is
-pub event-in : (u : Option Event) → event_in (unpacked u) ≡ u
-event-in none = refl
-event-in (some e) = refl
-
-pub was-nothing : (u : Option Event) → unpacked u ≡ Nothing → u ≡ none
-was-nothing none h = refl
-was-nothing (some e) h = absurd (let z : ◌≡◌ {A = ℕ} 0 1 = cc in omega arith)
-
-pub was-message : (u : Option Event) (e : Event) → unpacked u ≡ Message e → u ≡ some e
-was-message none e h = absurd (let z : ◌≡◌ {A = ℕ} 0 1 = cc in omega arith)
-was-message (some d) e h = let s : d ≡ e = cc in ap some s
-
--- and has document 01's number and fields
-abbrev pub answer : Answer messages Unpacked
-answer = record { told = unpacked; was-none = was-nothing; was-some = was-message; said = said_by; says = says }
+-- an answer has document 01's number and fields
+abbrev pub answer : Answer messages
+answer = record { said = said_by; says = says }
   where
-    says : (u : Option Event) → said_by (unpacked u) ≡ answer_of messages u
-    says none = refl
-    says (some e) = refl
+    says : (u : Option Event) → said_by u ≡ answer_of messages u
+    says None = refl
+    says (Some e) = refl
 
 -- too few bytes from a place to the run's end
 pub short : (run : List ℕ) (at : ℕ) → length run < at + messages.size
-    → (Nothing ≡ unpacked (unpack_of messages (message_at run at))) × (said_by Nothing ≡ answer_of messages (unpack_of messages (message_at run at)))
+    → (None ≡ unpack_of messages (message_at run at)) × (said_by None ≡ answer_of messages (unpack_of messages (message_at run at)))
 short run at h =
-    right messages answer (unpack_of messages (message_at run at)) Nothing
-    (ap unpacked (sym (unpack-short messages (drop at run) (rw length-drop (omega arith)))))
+    right messages answer (message_at run at) None
+    (sym (unpack-short messages (drop at run) (rw length-drop (omega arith))))

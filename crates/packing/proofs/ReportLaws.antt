@@ -2,31 +2,18 @@
 use Prim.Native.Nat.{ℕ, ◌<◌}
 use mathlib.Core.Bool.{Bool, true, false}
 use mathlib.Core.List.{List, [], ◌∷◌, ◌++◌}
-use mathlib.Core.Option.{Option, none, some}
-use mathlib.Core.Path.{◌≡◌, refl, sym, ap}
+use Rattle.std.specs.Prelude.{Option, None, Some}
+use mathlib.Core.Path.{◌≡◌, refl, ap}
 use native.Mathlib.Omega.{arith}
-use lib.ListN.{get_or, drop}
-use borrow.Author.Tests.{ne_eqb}
+use lib.ListN.{get_or}
 use Rattle.bits.specs.Fields.{Fit}
 use Rattle.packing.specs.declared.report.Report.{Report}
 use Rattle.packing.specs.declared.report.Report.TheVariants.{Noted, Rejected, Traded, Rested, Repriced, Cancelled}
-use Rattle.packing.specs.declared.report.Unpacked.{Unpacked}
-use Rattle.packing.specs.declared.report.Unpacked.TheVariants.{Told, Nothing}
-use Rattle.packing.specs.declared.report.Packed.{Packed}
-use Rattle.packing.specs.Codec.{bit, look_up, packs, answer_of}
-use Rattle.packing.specs.Report.{nine_fields, fields_of, code_of, by_kind, kinds_of, claimed_by, reports, unpacked, packed, said_by}
+use Rattle.packing.specs.Codec.{bit, packs, answer_of}
+use Rattle.packing.specs.Report.{nine_fields, fields_of, code_of, by_kind, claimed_by, reports, said_by}
 use Rattle.packing.proofs.CodecLaws.{Lawful, bit_is, fit-packs, Answer}
 
--- what is not of kinds 1 to 3 is looked up among the later kinds, and no kind but 1 to 6 is in the table
-pub later-kind : (k : ℕ) (l : List ℕ) → (k ≡ 1 → ⊥) → (k ≡ 2 → ⊥) → (k ≡ 3 → ⊥) → look_up k (kinds_of l) ≡ look_up k (drop 3 (kinds_of l))
-unfolding by_kind
-later-kind k l n1 n2 n3 = simp (ne_eqb _ _ n1, ne_eqb _ _ n2, ne_eqb _ _ n3)
-
-pub unknown-kind : (k : ℕ) (l : List ℕ) → (k ≡ 4 → ⊥) → (k ≡ 5 → ⊥) → (k ≡ 6 → ⊥) → look_up k (drop 3 (kinds_of l)) ≡ none
-unfolding by_kind
-unknown-kind k l n4 n5 n6 = simp (ne_eqb _ _ n4, ne_eqb _ _ n5, ne_eqb _ _ n6)
-
--- the nine fields, one by one, and the zero bits
+-- the nine fields, one by one, and the zero bits: the code finds this by itself, and docs/RULES cites it
 pub code-fields : (r : Report) (f : List ℕ) → f ≡ fields_of r
     → get_or f 0 0 ∷ get_or f 1 0 ∷ get_or f 2 0 ∷ get_or f 3 0 ∷ get_or f 4 0 ∷ get_or f 5 0 ∷ get_or f 6 0 ∷ get_or f 7 0 ∷ get_or f 8 0 ∷ 0 ∷ [] ≡ code_of r
 code-fields r f h = rw h (one_by_one r)
@@ -42,44 +29,25 @@ code-fields r f h = rw h (one_by_one r)
     one_by_one (Repriced sell party entry display working quantity) = refl
     one_by_one (Cancelled reason sell party entry limit quantity) = refl
 
-code-claimed : (r : Report) → claimed_by (code_of r) ≡ some r
+code-claimed : (r : Report) → claimed_by (code_of r) ≡ Some r
 unfolding by_kind
 code-claimed Noted = refl
-code-claimed (Rejected reason sell party entry limit quantity) = ap (λ (s : Bool). some (Rejected reason s party entry limit quantity)) (bit_is sell)
-code-claimed (Traded sell party entry other price quantity) = ap (λ (s : Bool). some (Traded s party entry other price quantity)) (bit_is sell)
-code-claimed (Rested sell party entry display working quantity) = ap (λ (s : Bool). some (Rested s party entry display working quantity)) (bit_is sell)
-code-claimed (Repriced sell party entry display working quantity) = ap (λ (s : Bool). some (Repriced s party entry display working quantity)) (bit_is sell)
-code-claimed (Cancelled reason sell party entry limit quantity) = ap (λ (s : Bool). some (Cancelled reason s party entry limit quantity)) (bit_is sell)
+code-claimed (Rejected reason sell party entry limit quantity) = ap (λ (s : Bool). Some (Rejected reason s party entry limit quantity)) (bit_is sell)
+code-claimed (Traded sell party entry other price quantity) = ap (λ (s : Bool). Some (Traded s party entry other price quantity)) (bit_is sell)
+code-claimed (Rested sell party entry display working quantity) = ap (λ (s : Bool). Some (Rested s party entry display working quantity)) (bit_is sell)
+code-claimed (Repriced sell party entry display working quantity) = ap (λ (s : Bool). Some (Repriced s party entry display working quantity)) (bit_is sell)
+code-claimed (Cancelled reason sell party entry limit quantity) = ap (λ (s : Bool). Some (Cancelled reason s party entry limit quantity)) (bit_is sell)
 
 pub lawful : Lawful reports
 lawful = record { whole = refl; long = refl; code-claimed = code-claimed }
 
--- an answer in Rattle's type says which it is
-pub was-nothing : (u : Option Report) → unpacked u ≡ Nothing → u ≡ none
-was-nothing none h = refl
-was-nothing (some r) h = absurd (let z : ◌≡◌ {A = ℕ} 0 1 = cc in omega arith)
-
-pub was-told : (u : Option Report) (r : Report) → unpacked u ≡ Told r → u ≡ some r
-was-told none r h = absurd (let z : ◌≡◌ {A = ℕ} 0 1 = cc in omega arith)
-was-told (some q) r h = let e : q ≡ r = cc in ap some e
-
--- and has document 01's number and fields
-abbrev pub answer : Answer reports Unpacked
-answer = record { told = unpacked; was-none = was-nothing; was-some = was-told; said = said_by; says = says }
+-- an answer has document 01's number and fields
+abbrev pub answer : Answer reports
+answer = record { said = said_by; says = says }
   where
-    says : (u : Option Report) → said_by (unpacked u) ≡ answer_of reports u
-    says none = refl
-    says (some r) = refl
-
-pub was-packed : (u : Option (List ℕ)) (p : Packed) → p ≡ packed u → p.ok ≡ true → u ≡ some p.bytes
-was-packed none p e h =
-    absurd (let g : p.ok ≡ false = ap (λ (q : Packed). q.ok) e in let z : ◌≡◌ {A = ℕ} 0 1 = cc in omega arith)
-was-packed (some s) p e h = ap some (sym (ap (λ (q : Packed). q.bytes) e))
-
-pub was-refused : (u : Option (List ℕ)) (p : Packed) → p ≡ packed u → p.ok ≡ false → u ≡ none
-was-refused none p e h = refl
-was-refused (some s) p e h =
-    absurd (let g : p.ok ≡ true = ap (λ (q : Packed). q.ok) e in let z : ◌≡◌ {A = ℕ} 0 1 = cc in omega arith)
+    says : (u : Option Report) → said_by u ≡ answer_of reports u
+    says None = refl
+    says (Some r) = refl
 
 -- WHICH REPORTS PACK, from bounds on their numbers
 pub bit-small : (b : Bool) → bit b < 2

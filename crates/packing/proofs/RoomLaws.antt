@@ -2,19 +2,17 @@
 use Prim.Native.Nat.{ℕ, suc, ◌+◌, ◌-◌, ◌*◌, ◌/◌, ◌≤◌, ◌<◌}
 use mathlib.Core.Bool.{Bool, true, false, cond, ◌&&◌, and-false}
 use mathlib.Core.List.{List, [], ◌∷◌, ◌++◌, map, append_assoc, append-nil}
-use mathlib.Core.Option.{Option, none, some}
+use Rattle.std.specs.Prelude.{Option, None, Some}
 use mathlib.Core.Path.{◌≡◌, refl, sym, ap, ap₂, ◌∙◌}
 use native.Mathlib.Nat.{add-zero}
-use native.Mathlib.Numerals.{add-one}
 use native.Mathlib.Omega.{arith}
 use borrow.Author.Tests.{le-leb, lt-leb}
 use lib.Dec.{leb}
-use lib.ListN.{length, take, drop, get_or, set, length-append, length-take, length-drop}
-use lib.Seq.{sets, length-sets, sets-eq, take-suc, take_at, drop_at, length-take-le}
+use lib.ListN.{length, take, drop, set, length-append, length-drop}
+use lib.Seq.{sets, length-sets, sets-eq, take_at, drop_at, length-take-le}
 use Rattle.packing.specs.declared.report.Report.{Report}
 use Rattle.packing.specs.Codec.{bytes_of, packs, unpack_of}
-use Rattle.packing.specs.declared.report.Unpacked.{Unpacked}
-use Rattle.packing.specs.Report.{reports, report_size, code_of, unpacked}
+use Rattle.packing.specs.Report.{reports, report_size, code_of}
 use Rattle.packing.specs.Room.{packed_all, written, is_put, room_after, AllPack, report_at, read_back}
 use Rattle.packing.proofs.CodecLaws.{length-bytes, pack-packs, pack-unpack, unpack-short}
 use Rattle.packing.proofs.ReportLaws.{lawful}
@@ -70,7 +68,7 @@ written-parts room at rs h =
     end : report_size * at + length (packed_all rs) ≡ report_size * (at + length rs)
     end = omega (arith, length-packed_all rs)
 
-read-packed : (rs : List Report) (rest : List ℕ) → AllPack rs → read_back (length rs) (packed_all rs ++ rest) ≡ map some rs
+read-packed : (rs : List Report) (rest : List ℕ) → AllPack rs → read_back (length rs) (packed_all rs ++ rest) ≡ map Some rs
 unfolding packed_all
 read-packed [] rest h = refl
 read-packed (r ∷ rs) rest h =
@@ -86,7 +84,7 @@ read-packed (r ∷ rs) rest h =
 
 -- THEOREM. Reports whose fields fit, written to a room that has their places, are read back from there one by one
 pub reports-read-back : (room : List ℕ) (at : ℕ) (rs : List Report) → AllPack rs → report_size * (at + length rs) ≤ length room
-    → read_back (length rs) (drop (report_size * at) (written room at rs)) ≡ map some rs
+    → read_back (length rs) (drop (report_size * at) (written room at rs)) ≡ map Some rs
 reports-read-back room at rs h k =
     ap (read_back (length rs)) behind ∙ read-packed rs (drop (report_size * (at + length rs)) room) h
   where
@@ -125,28 +123,17 @@ pub written_one : (room : List ℕ) (at : ℕ) (r : Report) → sets room (repor
 unfolding written packed_all
 written_one room at r = ap (λ (l : List ℕ). sets room (report_size * at) l) (sym (append-nil (bytes_of reports (code_of r))))
 
--- one store more of a row of stores
-pub sets_more : (l : List ℕ) (start : ℕ) (vs : List ℕ) (i : ℕ) → i < length vs
-    → set (sets l start (take i vs)) (start + i) (get_or vs i 0) ≡ sets l start (take (i + 1) vs)
-sets_more l start vs i h =
-    ap (λ (k : ℕ). set (sets l start (take i vs)) k (get_or vs i 0)) here
-    ∙ sym (sets-append l start (take i vs) (get_or vs i 0 ∷ []))
-    ∙ ap (λ (ws : List ℕ). sets l start ws) (sym (take-suc vs i 0 h) ∙ ap (λ (k : ℕ). take k vs) (sym (add-one i)))
-  where
-    here : start + i ≡ start + length (take i vs)
-    here = omega (arith, length-take i vs)
-
 -- ---- one place of the room ----
 
 -- no report stands where the room has not the bytes for it
-pub no_place : (room : List ℕ) (at : ℕ) → length room / 14 ≤ at → report_at room at ≡ none
+pub no_place : (room : List ℕ) (at : ℕ) → length room / 14 ≤ at → report_at room at ≡ None
 no_place room at h = unpack-short reports (drop (report_size * at) room) (rw length-drop (omega arith))
 
 -- the part of the room that is handed to the unpacker
-pub place-part : (room : List ℕ) (at : ℕ) (u : Unpacked)
-    → u ≡ unpacked (unpack_of reports (take (report_size * at + 14 - report_size * at) (drop (report_size * at) room)))
-    → u ≡ unpacked (report_at room at)
-place-part room at u h = h ∙ ap (λ (n : ℕ). unpacked (unpack_of reports (take n (drop (report_size * at) room)))) long
+pub place-part : (room : List ℕ) (at : ℕ) (u : Option Report)
+    → u ≡ unpack_of reports (take (report_size * at + 14 - report_size * at) (drop (report_size * at) room))
+    → u ≡ report_at room at
+place-part room at u h = h ∙ ap (λ (n : ℕ). unpack_of reports (take n (drop (report_size * at) room))) long
   where
     long : report_size * at + 14 - report_size * at ≡ 14
     long = omega arith

@@ -1,7 +1,7 @@
 -- What it is to be packed, once for setups, messages and reports: fields in bits, most significant bit first, and a table that says
 -- which number and which fields each case has.
-use Rattle.std.specs.Prelude.{ℕ, ◌*◌, ◌≤◌, Bool, true, false, cond, ◌&&◌, List, [], ◌∷◌, ◌≡◌, eqb, length, replicate}
-use Rattle.std.proofs.Math.Option.{Option, none, some}
+use Rattle.std.specs.Prelude.{ℕ, ◌*◌, ◌≤◌, Bool, true, false, ◌&&◌, List, [], ◌∷◌, ◌≡◌, eqb, length}
+use Rattle.std.specs.Prelude.{Option, None, Some}
 use Rattle.bits.specs.Fields.{total, join, split, bytes, Narrow, all_fit, equal}
 
 -- A sort of packed thing
@@ -24,26 +24,21 @@ bit true = 1
 -- the answer, if the test holds; otherwise none
 abbrev pub only_if : {A : Type 0} → Bool → Option A → Option A
 only_if true a = a
-only_if false a = none
+only_if false a = None
 
 -- the first, if the test holds; otherwise the other
 abbrev pub first_if : {A : Type 0} → Bool → A → Option A → Option A
-first_if true a other = some a
+first_if true a other = Some a
 first_if false a other = other
 
 -- what stands beside the number n in a table; none, if no row has that number
 abbrev pub look_up : {A : Type 0} → ℕ → List (ℕ × A) → Option A
-look_up n [] = none
+look_up n [] = None
 look_up n (row ∷ rows) = first_if (eqb n row.0) row.1 (look_up n rows)
 
 -- "unpack to none (1)"; a setup "refused (1, no series)"; a message that is none, refusal 1
 abbrev pub nothing : ℕ
 nothing = 1
-
--- a packer's answer in Rattle's type, made of whether there are bytes, and these; where there are none, bytes of zeros stand there
-abbrev pub packed_as : {P : Type 0} → (Bool → List ℕ → P) → ℕ → Option (List ℕ) → P
-packed_as make size none = make false (replicate size 0)
-packed_as make size (some s) = make true s
 
 -- widths of k fields, none wider than 32 bits, that fill n bytes, at most 64
 pub record Layout (ws : List ℕ) (k n : ℕ) : Type 0 where
@@ -52,16 +47,20 @@ pub record Layout (ws : List ℕ) (k n : ℕ) : Type 0 where
   pub fields : k ≡ length ws
   pub small : n ≤ 64
 
--- fields of the widths ws were asked of s: ok, if s has n bytes, and the fields are then theirs, and otherwise those that stood there
-pub record FieldsRead (s : List ℕ) (n : ℕ) (ws stood : List ℕ) (ok : Bool) (fields : List ℕ) : Type 0 where
-  pub long : ok ≡ eqb (length s) n
-  pub read : fields ≡ cond ok (split ws (join (bytes n) s)) stood
+-- a codec's table as code has it: the widths of k fields in n bytes
+pub record Tabled {E : Type 0} (C : Codec E) (ws : List ℕ) (k n : ℕ) : Type 0 where
+  pub widths : ws ≡ C.widths
+  pub size : n ≡ C.size
+  pub few : k ≤ 64
+  pub layout : Layout ws k n
 
--- fields of the widths ws were to be written where some bytes stood: ok, if each fits and the thing that they say is admitted, and the
--- bytes are then theirs, and otherwise those that stood there
-pub record FieldsWritten (stood ws fields : List ℕ) (admitted ok : Bool) (s : List ℕ) : Type 0 where
-  pub fit : ok ≡ (all_fit ws fields && admitted)
-  pub written : s ≡ cond ok (split (bytes (length stood)) (join ws fields)) stood
+-- the fields of the widths ws that s holds, if it has n bytes
+abbrev pub fields_read : List ℕ → ℕ → List ℕ → Option (List ℕ)
+fields_read s n ws = only_if (eqb (length s) n) (Some (split ws (join (bytes n) s)))
+
+-- the n bytes of these fields of the widths ws, if each fits and the thing that they say is admitted
+abbrev pub fields_written : ℕ → List ℕ → List ℕ → Bool → Option (List ℕ)
+fields_written n ws fields admitted = only_if (all_fit ws fields && admitted) (Some (split (bytes n) (join ws fields)))
 
 module _ {E : Type 0} (C : Codec E) where
   -- the fields that bytes hold, and the bytes of fields
@@ -73,8 +72,8 @@ module _ {E : Type 0} (C : Codec E) where
 
   -- a claimed thing stands if the fields are just its own, so that each field which its case does not name is 0
   abbrev pub checked : Option E → List ℕ → Option E
-  checked none l = none
-  checked (some e) l = only_if (equal (C.code e) l && C.admitted e) (some e)
+  checked None l = None
+  checked (Some e) l = only_if (equal (C.code e) l && C.admitted e) (Some e)
 
   unfoldable pub thing_of : List ℕ → Option E
   thing_of l = checked (C.claimed l) l
@@ -85,8 +84,8 @@ module _ {E : Type 0} (C : Codec E) where
 
   -- AN ANSWER BY NUMBER: 0 and the fields of what bytes unpack to; or the number of nothing, and no fields
   abbrev pub answer_of : Option E → ℕ × List ℕ
-  answer_of none = (nothing, [])
-  answer_of (some e) = (0, C.code e)
+  answer_of None = (nothing, [])
+  answer_of (Some e) = (0, C.code e)
 
   -- a thing packs if each of its fields fits its width and it is admitted
   unfoldable pub packs : E → Bool
@@ -94,4 +93,4 @@ module _ {E : Type 0} (C : Codec E) where
 
   -- WHAT A THING PACKS TO
   unfoldable pub pack_of : E → Option (List ℕ)
-  pack_of e = only_if (packs e) (some (bytes_of (C.code e)))
+  pack_of e = only_if (packs e) (Some (bytes_of (C.code e)))

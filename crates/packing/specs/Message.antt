@@ -1,14 +1,13 @@
 -- Messages, as document 01's "Numbers" lays them out.
-use Rattle.std.specs.Prelude.{ℕ, true, List, [], ◌∷◌, eqb, get_or, take, drop}
-use Rattle.std.proofs.Math.Option.{Option, none, some}
+use Rattle.std.specs.Prelude.{ℕ, true, refl, List, [], ◌∷◌, eqb, get_or, take, drop}
+use Rattle.std.specs.Prelude.{Option, None, Some}
+use Rattle.std.proofs.Common.{lit≤}
 use Rattle.packing.specs.declared.message.Entering.{Entering}
 use Rattle.packing.specs.declared.message.Event.{Event}
 use Rattle.packing.specs.declared.message.Event.TheVariants.{Plain, Mmlo, Mmalo, Mmrp, Displayed, Dark, CancelEntry}
 use Rattle.packing.specs.declared.message.Event.TheVariants.{CancelQuote, Away, Underlying, Phase, Enable}
-use Rattle.packing.specs.declared.message.Unpacked.{Unpacked}
-use Rattle.packing.specs.declared.message.Unpacked.TheVariants.{Message, Nothing}
-use Rattle.packing.specs.declared.message.Packed.{Packed}
-use Rattle.packing.specs.Codec.{Codec, nothing, packed_as, bit, look_up}
+use Rattle.bits.specs.Fields.{Narrow}
+use Rattle.packing.specs.Codec.{Codec, Tabled, nothing, bit, look_up}
 
 -- "A message is 11 bytes: kind 4 bits, party 7, side 1 (0 buy, 1 sell), price 17, quantity 17, second price 17, entry 20, five zero bits."
 abbrev pub message_size : ℕ
@@ -63,25 +62,18 @@ claimed_by l =
 abbrev pub messages : Codec Event
 messages = record { widths = widths; size = message_size; code = code_of; claimed = claimed_by; admitted = λ _. true }
 
+-- the code has this table
+pub tabled : Tabled messages widths 8 message_size
+tabled =
+    let narrow : Narrow widths = (lit≤ tt, (lit≤ tt, (lit≤ tt, (lit≤ tt, (lit≤ tt, (lit≤ tt, (lit≤ tt, (lit≤ tt, tt)))))))) in
+    record { widths = refl; size = refl; few = lit≤ tt; layout = record { fills = refl; narrow = narrow; fields = refl; small = lit≤ tt } }
+
 -- "A message in a long run is judged where it stands in the run, not copied out; a place with fewer than 11 bytes from it to the
 -- run's end holds a message of wrong length": these bytes are then fewer than 11
 abbrev pub message_at : List ℕ → ℕ → List ℕ
 message_at run at = take message_size (drop at run)
 
--- the answers in Rattle's types
-abbrev pub unpacked : Option Event → Unpacked
-unpacked none = Nothing
-unpacked (some e) = Message e
-
--- and back: the event that an answer holds
-abbrev pub event_in : Unpacked → Option Event
-event_in Nothing = none
-event_in (Message e) = some e
-
 -- document 01's number and fields for each case of the answer
-abbrev pub said_by : Unpacked → ℕ × List ℕ
-said_by Nothing = (nothing, [])
-said_by (Message e) = (0, code_of e)
-
-abbrev pub packed : Option (List ℕ) → Packed
-packed = packed_as (λ ok s. record { ok = ok; bytes = s }) messages.size
+abbrev pub said_by : Option Event → ℕ × List ℕ
+said_by None = (nothing, [])
+said_by (Some e) = (0, code_of e)

@@ -1,12 +1,11 @@
 -- Reports, as document 01's "Reports" lays them out.
-use Rattle.std.specs.Prelude.{ℕ, Bool, true, false, List, [], ◌∷◌, ◌++◌, eqb, get_or}
-use Rattle.std.proofs.Math.Option.{Option, none, some}
+use Rattle.std.specs.Prelude.{ℕ, Bool, true, false, refl, List, [], ◌∷◌, ◌++◌, eqb, get_or}
+use Rattle.std.specs.Prelude.{Option, None, Some}
+use Rattle.std.proofs.Common.{lit≤}
 use Rattle.packing.specs.declared.report.Report.{Report}
 use Rattle.packing.specs.declared.report.Report.TheVariants.{Noted, Rejected, Traded, Rested, Repriced, Cancelled}
-use Rattle.packing.specs.declared.report.Unpacked.{Unpacked}
-use Rattle.packing.specs.declared.report.Unpacked.TheVariants.{Told, Nothing}
-use Rattle.packing.specs.declared.report.Packed.{Packed}
-use Rattle.packing.specs.Codec.{Codec, nothing, packed_as, bit, look_up}
+use Rattle.bits.specs.Fields.{Narrow}
+use Rattle.packing.specs.Codec.{Codec, Tabled, nothing, bit, look_up}
 
 -- "14 bytes: kind 3 bits, reason 5, side 1, party 7, entry 20, other entry 20, price 17, second 17, quantity 17, five zero bits."
 abbrev pub report_size : ℕ
@@ -61,15 +60,13 @@ claimed_by l = look_up (get_or l 0 0) (kinds_of l)
 abbrev pub reports : Codec Report
 reports = record { widths = widths; size = report_size; code = code_of; claimed = claimed_by; admitted = λ _. true }
 
--- the answers in Rattle's types
-abbrev pub unpacked : Option Report → Unpacked
-unpacked none = Nothing
-unpacked (some r) = Told r
+-- the code has this table
+pub tabled : Tabled reports widths 10 report_size
+tabled =
+    let narrow : Narrow widths = (lit≤ tt, (lit≤ tt, (lit≤ tt, (lit≤ tt, (lit≤ tt, (lit≤ tt, (lit≤ tt, (lit≤ tt, (lit≤ tt, (lit≤ tt, tt)))))))))) in
+    record { widths = refl; size = refl; few = lit≤ tt; layout = record { fills = refl; narrow = narrow; fields = refl; small = lit≤ tt } }
 
 -- document 01's number and fields for each case of the answer
-abbrev pub said_by : Unpacked → ℕ × List ℕ
-said_by Nothing = (nothing, [])
-said_by (Told r) = (0, code_of r)
-
-abbrev pub packed : Option (List ℕ) → Packed
-packed = packed_as (λ ok s. record { ok = ok; bytes = s }) reports.size
+abbrev pub said_by : Option Report → ℕ × List ℕ
+said_by None = (nothing, [])
+said_by (Some r) = (0, code_of r)

@@ -1,6 +1,6 @@
 -- The room that a caller lends for reports: report number `at`, counted from 0, has the 14 bytes from 14 * at on.
 use Rattle.std.specs.Prelude.{ℕ, zero, suc, ◌+◌, ◌*◌, Bool, true, cond, ◌&&◌, List, [], ◌∷◌, ◌++◌, ◌≡◌, leb, length, take, drop}
-use Rattle.std.proofs.Math.Option.{Option}
+use Rattle.std.specs.Prelude.{Option}
 use Rattle.std.proofs.lemmas.List.Edits.{sets}
 use Rattle.packing.specs.declared.report.Report.{Report}
 use Rattle.packing.specs.Codec.{bytes_of, packs, unpack_of}

@@ -1,11 +1,10 @@
 -- Setup, as document 01's "Numbers" lays it out.
-use Rattle.std.specs.Prelude.{ℕ, Bool, ◌&&◌, ◌||◌, List, [], ◌∷◌, eqb, leb, get_or}
-use Rattle.std.proofs.Math.Option.{Option, none, some}
+use Rattle.std.specs.Prelude.{ℕ, Bool, ◌&&◌, ◌||◌, refl, List, [], ◌∷◌, eqb, leb, get_or}
+use Rattle.std.specs.Prelude.{Option, None, Some}
+use Rattle.std.proofs.Common.{lit≤}
 use Rattle.packing.specs.declared.setup.Setup.{Setup}
-use Rattle.packing.specs.declared.setup.Unpacked.{Unpacked}
-use Rattle.packing.specs.declared.setup.Unpacked.TheVariants.{Series, Nothing}
-use Rattle.packing.specs.declared.setup.Packed.{Packed}
-use Rattle.packing.specs.Codec.{Codec, nothing, packed_as, bit}
+use Rattle.bits.specs.Fields.{Narrow}
+use Rattle.packing.specs.Codec.{Codec, Tabled, nothing, bit}
 
 -- "Setup is 4 packed bytes, most significant bit first: put 1 bit, exempt 1, M 4, K 7, strike 17, two zero bits."
 abbrev pub setup_size : ℕ
@@ -18,7 +17,7 @@ abbrev pub code_of : Setup → List ℕ
 code_of s = bit s.put ∷ bit s.exempt ∷ s.m ∷ s.k ∷ s.strike ∷ 0 ∷ []
 
 abbrev pub claimed_by : List ℕ → Option Setup
-claimed_by l = some (record { put = eqb (get_or l 0 0) 1; exempt = eqb (get_or l 1 0) 1; m = get_or l 2 0; k = get_or l 3 0; strike = get_or l 4 0 })
+claimed_by l = Some (record { put = eqb (get_or l 0 0) 1; exempt = eqb (get_or l 1 0) 1; m = get_or l 2 0; k = get_or l 3 0; strike = get_or l 4 0 })
 
 -- "Strike 1 to 100,000"
 abbrev pub top_strike : ℕ
@@ -32,15 +31,13 @@ legal_setup s =
 abbrev pub setups : Codec Setup
 setups = record { widths = widths; size = setup_size; code = code_of; claimed = claimed_by; admitted = legal_setup }
 
--- the answers in Rattle's types
-abbrev pub unpacked : Option Setup → Unpacked
-unpacked none = Nothing
-unpacked (some s) = Series s
+-- the code has this table
+pub tabled : Tabled setups widths 6 setup_size
+tabled =
+    let narrow : Narrow widths = (lit≤ tt, (lit≤ tt, (lit≤ tt, (lit≤ tt, (lit≤ tt, (lit≤ tt, tt)))))) in
+    record { widths = refl; size = refl; few = lit≤ tt; layout = record { fills = refl; narrow = narrow; fields = refl; small = lit≤ tt } }
 
 -- document 01's number and fields for each case of the answer
-abbrev pub said_by : Unpacked → ℕ × List ℕ
-said_by Nothing = (nothing, [])
-said_by (Series s) = (0, code_of s)
-
-abbrev pub packed : Option (List ℕ) → Packed
-packed = packed_as (λ ok s. record { ok = ok; bytes = s }) setups.size
+abbrev pub said_by : Option Setup → ℕ × List ℕ
+said_by None = (nothing, [])
+said_by (Some s) = (0, code_of s)

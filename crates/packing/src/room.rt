@@ -1,10 +1,10 @@
 // The room that a caller lends for reports.
 ghost use Rattle.std.specs.Prelude.{◌≡◌, ◌+◌, ◌*◌, ◌≤◌, ◌<◌, length};
 ghost use Rattle.std.proofs.lemmas.List.Edits.{sets};
-ghost use Rattle.packing.specs.Report.{report_size, unpacked};
+ghost use Rattle.packing.specs.Report.{report_size};
 ghost use Rattle.packing.specs.Room.{is_put, room_after, report_at};
 
-use crate::report::{Report, Unpacked};
+use crate::report::Report;
 
 // The most reports that one message makes, and the bytes that they take: the room that a caller must lend for it.
 pub const MOST_REPORTS: usize = 2280;
@@ -16,11 +16,7 @@ pub fn store(room: &mut [u8], start: usize, part: &[u8])
     requires { start + length part.now ≤ length room.old }
     ensures { room.new ≡ sets room.old start part.now }
 {
-    let mut i = 0;
-    while i < part.len() {
-        room[start + i] = part[i];
-        i += 1;
-    }
+    room[start..start + part.len()].copy_from_slice(part);
 }
 
 // The first byte of place `at`.
@@ -39,24 +35,21 @@ pub fn put_report(room: &mut [u8], at: usize, report: Report) -> bool
     if room.len() / crate::report::SIZE <= at {
         return false;
     }
-    let packed = crate::report::pack(report);
-    let ok = packed.ok;
-    let bytes = packed.bytes;
-    if ok {
-        let start = start_of(at);
-        store(room, start, &bytes);
-        true
-    } else {
-        false
+    match crate::report::pack(report) {
+        Some(bytes) => {
+            store(room, start_of(at), &bytes);
+            true
+        }
+        None => false,
     }
 }
 
 // The report that stands at place `at` of a room; nothing, where none does.
-pub fn read_report(room: &[u8], at: usize) -> Unpacked
-    ensures { result ≡ unpacked (report_at room.now at) }
+pub fn read_report(room: &[u8], at: usize) -> Option<Report>
+    ensures { result ≡ report_at room.now at }
 {
     if room.len() / crate::report::SIZE <= at {
-        return Unpacked::Nothing;
+        return None;
     }
     let from = crate::report::SIZE * at;
     let to = from + crate::report::SIZE;

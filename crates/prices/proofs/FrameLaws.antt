@@ -2,11 +2,11 @@
 -- speak of them in the frame, where a sell is the mirror image of a buy by definition and nothing goes by side any more.
 -- Assumes nothing.
 use Prim.Native.Nat.{ℕ, ◌-◌, ◌≤◌, ◌<◌, min, max}
-use mathlib.Core.Path.{◌≡◌, refl, sym, ap, ◌∙◌}
+use mathlib.Core.Path.{◌≡◌, refl}
 use mathlib.Core.Bool.{Bool, true, false, not, beq}
 use native.Mathlib.Omega.{arith}
-use borrow.Author.Tests.{leb-true, leb-false, ltb-true, ltb-false, le-leb, lt-leb}
-use lib.Dec.{leb, ltb}
+use borrow.Author.Tests.{leb-true, leb-false, le-leb, lt-leb}
+use lib.Dec.{leb}
 use Rattle.prices.specs.Side.{keen, meek, reaches, Aggressive, Short}
 use Rattle.lists.proofs.Bools.{clash}
 use Rattle.lists.proofs.FirstLaws.{Decides}
@@ -85,46 +85,11 @@ unfolding seen
 short-seen false p x a h = h
 short-seen true p x a h = omega arith
 
--- picking by one test for both sides
-module _ (s : Bool) (p q : ℕ) where
-  pub keen-first : beq s (ltb p q) ≡ true → p ≡ keen s p q
-  unfolding keen
-  keen-first e = go s (ltb p q) refl e
-    where
-      go : (s t : Bool) → ltb p q ≡ t → beq s t ≡ true → p ≡ keen s p q
-      go true true h k = omega (arith, ltb-true p q h)
-      go false false h k = omega (arith, ltb-false p q h)
-      go true false h k = clash k refl
-      go false true h k = clash k refl
-
-  pub keen-second : beq s (ltb p q) ≡ false → q ≡ keen s p q
-  unfolding keen
-  keen-second e = go s (ltb p q) refl e
-    where
-      go : (s t : Bool) → ltb p q ≡ t → beq s t ≡ false → q ≡ keen s p q
-      go true false h k = omega (arith, ltb-false p q h)
-      go false true h k = omega (arith, ltb-true p q h)
-      go true true h k = clash refl k
-      go false false h k = clash refl k
-
 -- the less aggressive of two for one side is the more aggressive for the other
 meek-keen : (s : Bool) (p q : ℕ) → meek s p q ≡ keen (not s) p q
 unfolding meek keen
 meek-keen true p q = refl
 meek-keen false p q = refl
-
-beq-not : (s t : Bool) → beq (not s) t ≡ not (beq s t)
-beq-not true true = refl
-beq-not true false = refl
-beq-not false true = refl
-beq-not false false = refl
-
-module _ (s : Bool) (p q : ℕ) where
-  pub meek-first : beq s (ltb p q) ≡ false → p ≡ meek s p q
-  meek-first e = keen-first (not s) p q (beq-not s (ltb p q) ∙ ap not e) ∙ sym (meek-keen s p q)
-
-  pub meek-second : beq s (ltb p q) ≡ true → q ≡ meek s p q
-  meek-second e = keen-second (not s) p q (beq-not s (ltb p q) ∙ ap not e) ∙ sym (meek-keen s p q)
 
 -- what holds of both prices, or of the second where it is the more aggressive, holds of the one that is taken
 pub keen-either : (P : ℕ → Type 0) (s : Bool) (p q : ℕ) → P p → (seen s p ≤ seen s q → P q) → P (keen s p q)

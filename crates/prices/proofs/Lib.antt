@@ -12,3 +12,4 @@ pub mod TableLaws
 pub mod RestingLaws
 pub mod EaseLaws
 pub mod RequestLaws
+pub mod ReasonLaws

@@ -8,20 +8,10 @@ use borrow.Author.Tests.{eqb-true, eqb-false, eq-eqb}
 use lib.Dec.{eqb}
 use Rattle.prices.specs.Side.{reaches}
 use Rattle.prices.specs.Step.{legal, back, last_price}
-use Rattle.prices.specs.Rest.{shown_near, slides}
+use Rattle.prices.specs.Rest.{shown_near}
 use Rattle.prices.proofs.FrameLaws.{seen, seen-inj, reaches-true, reached}
 use Rattle.prices.proofs.StepLaws.{Mpv, Legal, is-legal, legal-is, back-lt, back-grid, back-high, back-legal, last-legal, last-least}
 use Rattle.lists.proofs.Bools.{agree, and_left, and_right, and_both}
-
--- the parts of `slides` in the code's order
-pub slides-split : (m : ℕ) (s : Bool) (l d w : ℕ) → legal m w ≡ true → (shown_near m s d w && reaches s l w) ≡ slides m s l d w
-unfolding slides
-slides-split m s l d w h = rw h (go (legal m d) (reaches s w d))
-  where
-    go : (a b : Bool) → (a && (b && reaches s d (back m s w)) && reaches s l w) ≡ (a && (b && (reaches s d (back m s w) && reaches s l w)))
-    go true true = refl
-    go true false = refl
-    go false b = refl
 
 module _ {m w : ℕ} (s : Bool) (d : ℕ) (v : Mpv m) (a : Legal m w) where
   -- at the working price

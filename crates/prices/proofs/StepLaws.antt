@@ -96,6 +96,7 @@ pub given-legal : {m p : ℕ} → Legal m p → LegalIfAny m p
 given-legal a = record { legal = λ _. a }
 
 -- ---- the pairs there are, and the count by constant divisors, as the code has it ----
+-- No proof cites them, since the check finds what they say: a further pair is one more case of each.
 
 pub other-named : {m : ℕ} → Named m → (m ≡ 1 → ⊥) → m ≡ 5
 other-named cent other = absurd (other refl)
@@ -124,14 +125,6 @@ small v = (v.grid.small-some, v.short.0)
 pub step-few : {m : ℕ} → Mpv m → (fine : Bool) → cond fine m (steps_of m).large ≤ 10
 step-few v true = v.short.0
 step-few v false = v.short.1
-
--- the step below a legal price is no longer than the price
-pub step-within : {m p : ℕ} → Mpv m → Legal m p → cond (leb p change) m (steps_of m).large ≤ p
-step-within {m} {p} v a = go (leb p change) refl
-  where
-    go : (b : Bool) → leb p change ≡ b → cond b m (steps_of m).large ≤ p
-    go true e = a.low
-    go false e = omega (arith, leb-false p change e, step-few v false)
 
 -- no legal price is 0
 pub positive : {m p : ℕ} → Mpv m → Legal m p → 1 ≤ p

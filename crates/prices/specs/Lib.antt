@@ -7,3 +7,4 @@ pub mod Test
 pub mod Protect
 pub mod Post
 pub mod Request
+pub mod Reasons

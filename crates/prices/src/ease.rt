@@ -11,6 +11,7 @@ fn is_beyond(sell: bool, away: u32, working: u32) -> bool
 }
 
 // The working price after easing.
+#[tactic(auto, unfolding(crate::specs::Ease::eased_to))]
 pub fn eased_to(sell: bool, away: u32, display: u32, working: u32) -> u32
     ensures { result ≡ eased_to sell away display working }
 {
@@ -21,6 +22,7 @@ pub fn eased_to(sell: bool, away: u32, display: u32, working: u32) -> u32
 }
 
 // Whether easing changes the working price.
+#[tactic(auto, unfolding(crate::specs::Ease::eases))]
 pub fn is_easing(sell: bool, away: u32, display: u32, working: u32) -> bool
     ensures { result ≡ eases sell away display working }
 {

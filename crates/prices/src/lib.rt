@@ -5,6 +5,7 @@ pub mod aims;
 pub mod ease;
 pub mod post;
 pub mod protect;
+pub mod reason;
 pub mod request;
 pub mod rest;
 pub mod side;
@@ -25,6 +26,33 @@ pub struct Market {
     pub offer: u32,
 }
 
+// What a quote or an order asks: its kind, its side and its limit.
+#[derive(Clone, Copy)]
+pub struct Interest {
+    pub kind: u32,
+    pub sell: bool,
+    pub limit: u32,
+}
+
+// What a quote that slides faces: the number that names the steps, the away price and the best working price against it (0: none).
+#[derive(Clone, Copy)]
+pub struct Against {
+    pub m: u32,
+    pub away: u32,
+    pub contra: u32,
+}
+
+// What is left of an entry, as it would rest: the number that names the steps and how many of them its display may stand back from its limit, the away
+// price and the best undisplayed price against it (0: none), and the display that it would get.
+#[derive(Clone, Copy)]
+pub struct Posting {
+    pub m: u32,
+    pub k: u32,
+    pub away: u32,
+    pub hidden: u32,
+    pub display: u32,
+}
+
 // What price protection knows of a series: the kind of option, its strike, and the underlying price (0: none).
 #[derive(Clone, Copy)]
 pub struct Guard {
@@ -39,12 +67,4 @@ pub struct Guard {
 pub struct Figures {
     pub first: u32,
     pub second: u32,
-}
-
-// The answer to a request for aims: refusal 0 and the aims, or the refusal and zeros.
-#[derive(Clone, Copy)]
-pub struct Answered {
-    pub refusal: u32,
-    pub display: u32,
-    pub working: u32,
 }

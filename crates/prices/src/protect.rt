@@ -1,9 +1,10 @@
 // Price protection: the tests put to a quote before all else.
 ghost use Rattle.std.specs.Prelude.{◌≡◌};
 ghost use Rattle.prices.specs.Test.{holds, figures_of};
+ghost use Rattle.prices.specs.Reasons.{reason_number};
 ghost use Rattle.prices.specs.Protect.{test25, test26, figures24, limited24, test24, bars, protection, Cents};
 
-use crate::step::less;
+use crate::reason::Reason;
 use crate::{Figures, Guard};
 
 pub fn figures(first: u32, second: u32) -> Figures
@@ -27,13 +28,14 @@ pub fn is_above_strike(guard: Guard, sell: bool, limit: u32) -> bool
 }
 
 // What a limit is measured by against the best price of the other side.
+#[tactic(auto, unfolding(crate::specs::Protect::figures24))]
 pub fn far_figures(sell: bool, best: u32, limit: u32) -> Figures
     requires { Cents best limit }
     ensures { result ≡ figures24 sell best limit }
 {
     if sell {
         return Figures {
-            first: 2 * less(best, limit),
+            first: 2 * best.saturating_sub(limit),
             second: best,
         };
     }
@@ -44,12 +46,13 @@ pub fn far_figures(sell: bool, best: u32, limit: u32) -> Figures
         };
     }
     Figures {
-        first: 2 * less(limit, best),
+        first: 2 * limit.saturating_sub(best),
         second: best,
     }
 }
 
 // Whether there is a best price that sets a limit. Bids and offers are no mirror images here.
+#[tactic(auto, unfolding(crate::specs::Protect::limited24))]
 fn is_limited(sell: bool, best: u32) -> bool
     ensures { result ≡ limited24 sell best }
 {
@@ -65,24 +68,26 @@ pub fn is_too_far(sell: bool, best: u32, limit: u32) -> bool
     is_limited(sell, best) & (figures.second <= figures.first)
 }
 
-// The reason to reject a quote at once, or 0.
-pub fn protection_of(guard: Guard, sell: bool, best: u32, limit: u32) -> u32
+// The reason to reject a quote at once, if there is one.
+#[tactic(auto, unfolding(crate::specs::Protect::protection))]
+pub fn protection_of(guard: Guard, sell: bool, best: u32, limit: u32) -> Option<Reason>
     requires { Cents best limit }
-    ensures { result ≡ protection guard sell best limit }
+    ensures { reason_number result ≡ protection guard sell best limit }
 {
     if is_above_underlying(guard, sell, limit) {
-        return 25;
+        return Some(Reason::AboveUnderlying);
     }
     if is_above_strike(guard, sell, limit) {
-        return 26;
+        return Some(Reason::AboveStrike);
     }
     if is_too_far(sell, best, limit) {
-        return 24;
+        return Some(Reason::TooFar);
     }
-    0
+    None
 }
 
 // The two figures that a rule's test of price protection compares; two zeros for a rule that is none of these.
+#[tactic(auto, unfolding(crate::specs::Test::figures_of))]
 pub fn bar_figures(rule: u32, guard: Guard, sell: bool, best: u32, limit: u32) -> Figures
     requires { Cents best limit }
     ensures { result ≡ figures_of rule (bars guard sell best limit) }

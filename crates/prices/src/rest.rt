@@ -4,20 +4,22 @@ ghost use Rattle.prices.specs.Step.{mpv, legal};
 ghost use Rattle.prices.specs.Aims.{Bounds};
 ghost use Rattle.prices.specs.Rest.{marketable, resting_prices, at_rest, stirs_at, shown_near, slides};
 
-use crate::Prices;
 use crate::aims::aims_of;
 use crate::side::{is_reaching, keener};
 use crate::step::{is_legal, last_price, one_back};
+use crate::{Against, Interest, Prices};
 use kinds::is_minding;
 
 // Whether a quote has a trade to make: it takes, and aims at the contra price or beyond.
-pub fn is_marketable(kind: u32, sell: bool, contra: u32, aim: Prices) -> bool
-    ensures { result ≡ marketable kind sell contra aim }
+#[tactic(auto, unfolding(crate::specs::Rest::marketable))]
+pub fn is_marketable(quote: Interest, contra: u32, aim: Prices) -> bool
+    ensures { result ≡ marketable quote.kind quote.sell contra aim }
 {
-    !is_minding(kind) & ((contra != 0) & is_reaching(sell, aim.working, contra))
+    !is_minding(quote.kind) & ((contra != 0) & is_reaching(quote.sell, aim.working, contra))
 }
 
 // Where a resting quote with this display belongs.
+#[tactic(auto, unfolding(crate::specs::Rest::resting_prices))]
 pub fn resting_of(sell: bool, display: u32, aim: Prices) -> Prices
     ensures { result ≡ resting_prices sell display aim }
 {
@@ -29,29 +31,23 @@ pub fn resting_of(sell: bool, display: u32, aim: Prices) -> Prices
     }
 }
 
-pub fn is_at_rest(sell: bool, display: u32, working: u32, aim: Prices) -> bool
-    ensures { result ≡ at_rest sell display working aim }
+#[tactic(auto, unfolding(crate::specs::Rest::at_rest))]
+pub fn is_at_rest(sell: bool, now: Prices, aim: Prices) -> bool
+    ensures { result ≡ at_rest sell now.display now.working aim }
 {
-    let there = resting_of(sell, display, aim);
-    (display == there.display) & (working == there.working)
+    let there = resting_of(sell, now.display, aim);
+    (now.display == there.display) & (now.working == there.working)
 }
 
 // Whether a quote has a trade to make or a price to move.
-pub fn is_stirring_at(
-    m: u32,
-    kind: u32,
-    sell: bool,
-    limit: u32,
-    away: u32,
-    contra: u32,
-    display: u32,
-    working: u32,
-) -> bool
-    requires { Bounds m away contra }
-    ensures { result ≡ stirs_at m kind sell limit away contra display working }
+#[tactic(auto, unfolding(crate::specs::Rest::stirs_at))]
+pub fn is_stirring_at(quote: Interest, against: Against, now: Prices) -> bool
+    requires { Bounds against.m against.away against.contra }
+    ensures { result
+        ≡ stirs_at against.m quote.kind quote.sell quote.limit against.away against.contra now.display now.working }
 {
-    let aim = aims_of(m, kind, sell, limit, away, contra);
-    is_marketable(kind, sell, contra, aim) | !is_at_rest(sell, display, working, aim)
+    let aim = aims_of(quote, against);
+    is_marketable(quote, against.contra, aim) | !is_at_rest(quote.sell, now, aim)
 }
 
 // Whether a display is legal and at most one step behind a working price that is legal. It then is that price or the next one, so that no grid is asked.
@@ -67,6 +63,7 @@ fn is_shown_near(m: u32, sell: bool, display: u32, working: u32) -> bool
 }
 
 // Whether the prices are sound ones of a sliding quote.
+#[tactic(auto, unfolding(crate::specs::Rest::slides))]
 pub fn is_slide(m: u32, sell: bool, limit: u32, display: u32, working: u32) -> bool
     requires { mpv m ≡ true }
     ensures { result ≡ slides m sell limit display working }

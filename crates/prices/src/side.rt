@@ -5,20 +5,23 @@ ghost use Rattle.prices.specs.Side.{keen, meek, reaches, nearer, away};
 use crate::Market;
 
 // The more aggressive of two prices.
+#[tactic(auto, unfolding(crate::specs::Side::keen))]
 pub fn keener(sell: bool, p: u32, q: u32) -> u32
     ensures { result ≡ keen sell p q }
 {
-    if sell == (p < q) { p } else { q }
+    if sell { p.min(q) } else { p.max(q) }
 }
 
 // The less aggressive of two prices.
+#[tactic(auto, unfolding(crate::specs::Side::keen, crate::specs::Side::meek))]
 pub fn meeker(sell: bool, p: u32, q: u32) -> u32
     ensures { result ≡ meek sell p q }
 {
-    if sell == (p < q) { q } else { p }
+    keener(!sell, p, q)
 }
 
 // Whether p is as aggressive as x, or more.
+#[tactic(auto, unfolding(crate::specs::Side::reaches))]
 pub fn is_reaching(sell: bool, p: u32, x: u32) -> bool
     ensures { result ≡ reaches sell p x }
 {
@@ -26,6 +29,7 @@ pub fn is_reaching(sell: bool, p: u32, x: u32) -> bool
 }
 
 // Of two contra prices that may be missing, the one that is met first.
+#[tactic(auto, unfolding(crate::specs::Side::nearer))]
 pub fn nearer_of(sell: bool, p: u32, q: u32) -> u32
     ensures { result ≡ nearer sell p q }
 {

@@ -5,12 +5,14 @@ use Prim.Native.Nat.{ℕ}
 use mathlib.Core.Path.{◌≡◌, refl, sym, ap, ◌∙◌}
 use mathlib.Core.Bool.{Bool, true, false, ◌&&◌, ◌||◌}
 use mathlib.Core.List.{List, []}
-use mathlib.Core.Option.{Option, none, some}
+use Rattle.std.specs.Prelude.{Option, None, Some}
 use mathlib.Core.Logic.{inl}
 use native.Mathlib.Omega.{arith}
 use lib.Dec.{eqb, leb}
 use lib.ListN.{length, replicate}
 use borrow.Author.Tests.{leb-true}
+use Rattle.std.specs.Prelude.{is_ok}
+use Rattle.std.specs.Result.{result_unwrap_or}
 use Rattle.bits.specs.Fields.{equal}
 use Rattle.prices.specs.Step.{mpv}
 use Rattle.prices.proofs.StepLaws.{is-named}
@@ -29,7 +31,7 @@ use Rattle.series.proofs.SoundSeriesDecides.{sound-series-decides}
 use Rattle.series.proofs.SeriesFacts.{facts-series}
 
 -- "Setup of other length or values is refused": what unpacks has legal values
-pub setup-legal : (bytes : List ℕ) (x : Setup) → unpack_of setups bytes ≡ some x → legal_setup x ≡ true
+pub setup-legal : (bytes : List ℕ) (x : Setup) → unpack_of setups bytes ≡ Some x → legal_setup x ≡ true
 unfolding unpack_of thing_of
 setup-legal bytes x h =
     go (setups.claimed (fields_in setups bytes)) (only_if-some (eqb (length bytes) setup_size) (thing_of setups (fields_in setups bytes)) x h).1
@@ -37,11 +39,11 @@ setup-legal bytes x h =
     l : List ℕ
     l = fields_in setups bytes
 
-    go : (u : Option Setup) → checked setups u l ≡ some x → legal_setup x ≡ true
-    go none k = absurd (let z : ◌≡◌ {A = ℕ} 0 1 = cc in omega arith)
-    go (some d) k =
-        let p = only_if-some (equal (code_of d) l && legal_setup d) (some d) x k in
-        let q : some d ≡ some x = p.1 in
+    go : (u : Option Setup) → checked setups u l ≡ Some x → legal_setup x ≡ true
+    go None k = absurd (let z : ◌≡◌ {A = ℕ} 0 1 = cc in omega arith)
+    go (Some d) k =
+        let p = only_if-some (equal (code_of d) l && legal_setup d) (Some d) x k in
+        let q : Some d ≡ Some x = p.1 in
         let same : d ≡ x = cc in
         ap legal_setup (sym same) ∙ and_right (equal (code_of d) l) (legal_setup d) p.0
 
@@ -64,7 +66,7 @@ legal-sound x h =
     (omega arith) refl (omega arith) (record { closed = λ p. refl; halted = λ p. tt })
 
 -- EVERY SETUP THAT UNPACKS GIVES A SOUND SERIES
-pub setup-sound : (bytes : List ℕ) (x : Setup) → unpack_of setups bytes ≡ some x → SoundSeries (new_series x)
+pub setup-sound : (bytes : List ℕ) (x : Setup) → unpack_of setups bytes ≡ Some x → SoundSeries (new_series x)
 setup-sound bytes x h = (sound-series-decides (new_series x)).0 (legal-sound x (setup-legal bytes x h))
 
 -- NOBODY CAN USE WHAT STANDS FOR NO SERIES
@@ -73,9 +75,9 @@ unfolding sound_series sound_terms mpv
 none-unsound = refl
 
 -- so a setup is not refused exactly where its series is sound
-pub opened-sound : (bytes : List ℕ) → eqb (opened (unpack_of setups bytes)).refusal 0 ≡ sound_series (opened (unpack_of setups bytes)).series
+pub opened-sound : (bytes : List ℕ) → is_ok (opened (unpack_of setups bytes)) ≡ sound_series (result_unwrap_or (opened (unpack_of setups bytes)) no_series)
 opened-sound bytes = go (unpack_of setups bytes) refl
   where
-    go : (u : Option Setup) → unpack_of setups bytes ≡ u → eqb (opened u).refusal 0 ≡ sound_series (opened u).series
-    go none k = sym none-unsound
-    go (some x) k = sym (legal-sound x (setup-legal bytes x k))
+    go : (u : Option Setup) → unpack_of setups bytes ≡ u → is_ok (opened u) ≡ sound_series (result_unwrap_or (opened u) no_series)
+    go None k = sym none-unsound
+    go (Some x) k = sym (legal-sound x (setup-legal bytes x k))

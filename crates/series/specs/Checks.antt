@@ -1,9 +1,9 @@
 -- What the test of a series answers.
 -- No rule of document 01 stands here, only words for contracts.
 -- Assumes nothing.
-use Rattle.std.specs.Prelude.{ℕ, ◌≡◌, Bool, true, false, cond, not, eqb}
+use Rattle.std.specs.Prelude.{ℕ, ◌≡◌, Bool, true, cond, not, eqb, Option, is_some}
 use Rattle.soundness.specs.declared.Check.{Check}
-use Rattle.soundness.specs.Summary.{Checked, unsound}
+use Rattle.soundness.specs.Summary.{Checked}
 use Rattle.series.specs.declared.Series.{Series}
 use Rattle.series.specs.Series.{sound_series}
 
@@ -11,8 +11,7 @@ use Rattle.series.specs.Series.{sound_series}
 abbrev pub phase_with : ℕ → ℕ → Bool → Bool
 phase_with phase count quoted = cond (eqb phase 0) (eqb count 0) (cond (eqb phase 2) (not quoted) true)
 
--- the verdict, for every series; for a sound one what the pass over its book has seen, and zeros for any other
-pub record Tested (s : Series) (r : Check) : Type 0 where
-  pub verdict : r.ok ≡ sound_series s
-  pub checked : r.ok ≡ true → Checked s.terms.m s.terms.given s.book r
-  pub nothing : r.ok ≡ false → r ≡ unsound
+-- the verdict, for every series; for a sound one what the pass over its book has seen, and none for any other
+pub record Tested (s : Series) (r : Option Check) : Type 0 where
+  pub verdict : is_some r ≡ sound_series s
+  pub checked : is_some r ≡ true → Checked s.terms.m s.terms.given s.book r

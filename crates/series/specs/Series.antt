@@ -1,10 +1,10 @@
 -- A series from its setup, and which series are sound: document 01's "A state is sound if: ..", clause by clause.
 -- Assumes nothing.
-use Rattle.std.specs.Prelude.{ℕ, Bool, true, false, cond, not, ◌&&◌, List, [], eqb, leb, length, replicate}
-use Rattle.std.proofs.Math.Option.{Option, none, some}
+use Rattle.std.specs.Prelude.{ℕ, Bool, true, false, cond, not, ◌&&◌, List, [], eqb, leb, length, replicate, Result, Ok, Err, Option, None, Some}
 use Rattle.prices.specs.Step.{mpv, none_or_legal}
 use Rattle.lists.specs.Tests.{any}
-use Rattle.packing.specs.Codec.{nothing}
+use Rattle.kinds.specs.declared.refusal.Refusal.{Refusal}
+use Rattle.kinds.specs.declared.refusal.Refusal.TheVariants.{Nothing}
 use Rattle.packing.specs.declared.setup.Setup.{Setup}
 use Rattle.packing.specs.Setup.{top_strike}
 use Rattle.book.specs.declared.Entry.{Entry}
@@ -14,7 +14,6 @@ use Rattle.soundness_theory.specs.Sound.{between, sound_book}
 use Rattle.terms.specs.declared.Terms.{Terms}
 use Rattle.terms.specs.Terms.{top_underlying}
 use Rattle.series.specs.declared.Series.{Series}
-use Rattle.series.specs.declared.Made.{Made}
 
 -- "A new series is closed, empty, unblocked, with no away or underlying price."
 abbrev pub new_series : Setup → Series
@@ -35,14 +34,14 @@ new_series s = record {
   book = book_of [];
 }
 
--- where there is no series, the answer holds one of zeros, which is unsound
+-- where there is no series, one of zeros may stand for it, which is unsound
 abbrev pub no_series : Series
 no_series = new_series (record { put = false; exempt = false; m = 0; k = 0; strike = 0 })
 
 -- "Setup of other length or values is refused (1, no series)."
-abbrev pub opened : Option Setup → Made
-opened none = record { refusal = nothing; series = no_series }
-opened (some s) = record { refusal = 0; series = new_series s }
+abbrev pub opened : Option Setup → Result Series Refusal
+opened None = Err Nothing
+opened (Some s) = Ok (new_series s)
 
 -- ---- soundness ----
 

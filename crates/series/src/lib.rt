@@ -14,10 +14,3 @@ pub struct Series {
     pub blocked: [bool; 16],
     pub book: Book,
 }
-
-// A series and refusal 0, or refusal 1 and none: an enum cannot hold a series, since that holds an array.
-#[derive(Clone, Copy)]
-pub struct Made {
-    pub refusal: u32,
-    pub series: Series,
-}

@@ -2,11 +2,12 @@
 ghost use Rattle.std.specs.Prelude.{◌≡◌};
 ghost use Rattle.packing.specs.Codec.{unpack_of};
 ghost use Rattle.packing.specs.Setup.{setups};
-ghost use Rattle.series.specs.Series.{new_series, no_series, opened};
+ghost use Rattle.series.specs.Series.{new_series, opened};
 
-use crate::{Made, Series};
+use crate::Series;
 use book::change::empty;
-use packing::setup::{Setup, Unpacked, unpack};
+use kinds::refusal::Refusal;
+use packing::setup::{Setup, unpack};
 use terms::Terms;
 
 fn new_terms(s: Setup) -> Terms
@@ -40,28 +41,13 @@ pub fn new_series(s: Setup) -> Series
     }
 }
 
-// What stands where there is no series: one of zeros, which is unsound.
-pub fn no_series() -> Series
-    ensures { result ≡ no_series }
-{
-    new_series(Setup {
-        put: false,
-        exempt: false,
-        m: 0,
-        k: 0,
-        strike: 0,
-    })
-}
-
-// The series that these bytes set up, or none.
-pub fn open_series(setup: &[u8]) -> Made
+// The series that these bytes set up; none is refused as no setup.
+pub fn open_series(setup: &[u8]) -> Result<Series, Refusal>
     ensures { result ≡ opened (unpack_of setups setup.now) }
 {
-    let u = unpack(setup);
-    let Unpacked::Series(s) = u else {
-        let series = no_series();
-        return Made { refusal: 1, series };
+    let Some(s) = unpack(setup) else {
+        return Err(Refusal::Nothing);
     };
     let series = new_series(s);
-    Made { refusal: 0, series }
+    Ok(series)
 }

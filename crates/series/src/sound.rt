@@ -8,7 +8,6 @@ use crate::Series;
 use book::entries::LAST_NUMBER;
 use packing::setup::TOP_STRIKE;
 use prices::step::{is_mpv, is_none_or_legal};
-use soundness::figures::broken;
 use soundness::{Check, check_book};
 use terms::{TOP_UNDERLYING, Terms};
 
@@ -47,18 +46,18 @@ fn is_phase_sound(phase: u32, count: usize, quoted: bool) -> bool
     true
 }
 
-// The test, for every series: `ok` is the verdict, and with it comes what the pass over the book has seen.
-pub fn check_series(s: Series) -> Check
+// The test, for every series: of a sound one it answers what the pass over the book has seen, and none of any other.
+pub fn check_series(s: Series) -> Option<Check>
     ensures { Tested s result }
 {
     let t = s.terms;
     if !are_terms_sound(t) {
-        return broken();
+        return None;
     }
     let b = s.book;
-    let check = check_book(b, t.m, t.given);
+    let check = check_book(b, t.m, t.given)?;
     if !is_phase_sound(t.phase, b.count, check.quoted) {
-        return broken();
+        return None;
     }
-    check
+    Some(check)
 }

@@ -2,7 +2,7 @@
 -- Assumes nothing.
 use mathlib.Core.Bool.{Bool}
 use mathlib.Core.List.{List, [], ◌∷◌, map}
-use mathlib.Core.Option.{Option, some}
+use Rattle.std.specs.Prelude.{Option, Some}
 use mathlib.Core.Path.{◌≡◌, refl, ap₂}
 use Rattle.packing.specs.Codec.{bit}
 use Rattle.packing.proofs.CodecLaws.{Lawful, bit_is}
@@ -13,9 +13,9 @@ flags-claimed : (l : List Bool) → map is_set (map bit l) ≡ l
 flags-claimed [] = refl
 flags-claimed (b ∷ l) = ap₂ {C = List Bool} (λ (x : Bool) (xs : List Bool). x ∷ xs) (bit_is b) (flags-claimed l)
 
-code-claimed : (h : Header) → ◌≡◌ {A = Option Header} (some (header_by (code_of h))) (some h)
+code-claimed : (h : Header) → ◌≡◌ {A = Option Header} (Some (header_by (code_of h))) (Some h)
 code-claimed h i =
-    some (record {
+    Some (record {
       terms = record {
         m = h.terms.m;
         k = h.terms.k;

@@ -3,7 +3,7 @@
 use Prim.Native.Nat.{ℕ, suc, ◌+◌, ◌-◌, ◌*◌, ◌≤◌, ◌<◌}
 use mathlib.Core.Path.{◌≡◌, refl, sym, ap, ap₂, ◌∙◌}
 use mathlib.Core.List.{List, [], ◌∷◌, ◌++◌, append_assoc, append-nil}
-use mathlib.Core.Option.{Option, none, some}
+use Rattle.std.specs.Prelude.{Option, None, Some}
 use native.Mathlib.Numerals.{add-one}
 use native.Mathlib.Omega.{arith}
 use lib.ListN.{length, take, drop, get_or, set, length-append, length-drop, length-set}
@@ -12,40 +12,30 @@ use Rattle.packing.specs.Codec.{bytes_of, unpack_of}
 use Rattle.packing.proofs.CodecLaws.{length-bytes}
 use Rattle.book.specs.declared.Entry.{Entry}
 use Rattle.book.specs.Shape.{zero_entry}
-use Rattle.series_buffer.specs.declared.places.Place.TheVariants.{Nothing, Holding}
-use Rattle.series_buffer.specs.Entry.{entry_size, entries, place_of}
+use Rattle.series_buffer.specs.Entry.{entry_size, entries}
 use Rattle.series_buffer.specs.State.{places_size, joined, entries_in, entries_bytes}
 use Rattle.series_buffer.proofs.EntryLaws.{lawful}
 
 -- ---- reading ----
 
--- what a place held, by the answer
-no_place : (o : Option Entry) → Nothing ≡ place_of o → o ≡ none
-no_place none h = refl
-no_place (some e) h = let z : ◌≡◌ {A = ℕ} 0 1 = cc in absurd (omega arith)
-
-held_place : (o : Option Entry) (e : Entry) → Holding e ≡ place_of o → o ≡ some e
-held_place none e h = let z : ◌≡◌ {A = ℕ} 0 1 = cc in absurd (omega arith)
-held_place (some x) e h = let same : x ≡ e = cc in ap some same
-
 -- entries that were read, with those that are still to be read behind them
 abbrev pub behind : List Entry → Option (List Entry) → Option (List Entry)
-behind l none = none
-behind l (some es) = some (l ++ es)
+behind l None = None
+behind l (Some es) = Some (l ++ es)
 
 behind-nothing : (o : Option (List Entry)) → behind [] o ≡ o
-behind-nothing none = refl
-behind-nothing (some es) = refl
+behind-nothing None = refl
+behind-nothing (Some es) = refl
 
-behind-one : (l : List Entry) (e : Entry) (o : Option (List Entry)) → behind l (joined (some e) o) ≡ behind (l ++ (e ∷ [])) o
-behind-one l e none = refl
-behind-one l e (some es) = ap some (sym (append_assoc l (e ∷ []) es))
+behind-one : (l : List Entry) (e : Entry) (o : Option (List Entry)) → behind l (joined (Some e) o) ≡ behind (l ++ (e ∷ [])) o
+behind-one l e None = refl
+behind-one l e (Some es) = ap Some (sym (append_assoc l (e ∷ []) es))
 
 next-entry : (n k : ℕ) (s : List ℕ) → n ≡ suc k → entries_in n s ≡ joined (unpack_of entries (take entry_size s)) (entries_in k (drop entry_size s))
 unfolding entries_in
 next-entry n k s h = rw h refl
 
-no-entry : (n : ℕ) (s : List ℕ) → n ≡ 0 → entries_in n s ≡ some []
+no-entry : (n : ℕ) (s : List ℕ) → n ≡ 0 → entries_in n s ≡ Some []
 unfolding entries_in
 no-entry n s h = rw h refl
 
@@ -58,11 +48,11 @@ pub read-start : (s : List ℕ) (es : List Entry) → length es ≡ 64 → Readi
 read-start s es h = record { within = omega arith; places = h; left = behind-nothing (entries_in 64 s) }
 
 module _ (s : List ℕ) (i : ℕ) (es : List Entry) (v : Reading s i es) where
-  pub read_done : 64 ≤ i → entries_in 64 s ≡ some es
+  pub read_done : 64 ≤ i → entries_in 64 s ≡ Some es
   read_done h =
       sym v.left
       ∙ ap (behind (take i es)) (no-entry (64 - i) (drop (entry_size * i) s) (omega arith))
-      ∙ ap some (append-nil (take i es) ∙ take_all i es (omega (arith, v.places)))
+      ∙ ap Some (append-nil (take i es) ∙ take_all i es (omega (arith, v.places)))
 
   module _ (inside : i < 64) (part : List ℕ) (there : part ≡ take (length s - entry_size * i) (drop (entry_size * i) s)) where
     here : behind (take i es) (joined (unpack_of entries (take entry_size part)) (entries_in (64 - (i + 1)) (drop (entry_size * (i + 1)) s))) ≡ entries_in 64 s
@@ -81,10 +71,10 @@ module _ (s : List ℕ) (i : ℕ) (es : List Entry) (v : Reading s i es) where
     abbrev left_by : Option Entry → Option (List Entry)
     left_by o = behind (take i es) (joined o (entries_in (64 - (i + 1)) (drop (entry_size * (i + 1)) s)))
 
-    pub read-fail : Nothing ≡ place_of (unpack_of entries (take entry_size part)) → entries_in 64 s ≡ none
-    read-fail h = sym here ∙ ap left_by (no_place (unpack_of entries (take entry_size part)) h)
+    pub read-fail : unpack_of entries (take entry_size part) ≡ None → entries_in 64 s ≡ None
+    read-fail h = sym here ∙ ap left_by h
 
-    pub read_past : (e : Entry) → Holding e ≡ place_of (unpack_of entries (take entry_size part)) → Reading s (i + 1) (set es i e)
+    pub read_past : (e : Entry) → unpack_of entries (take entry_size part) ≡ Some e → Reading s (i + 1) (set es i e)
     read_past e h = record {
       within = omega arith;
       places = length-set es i e ∙ v.places;
@@ -92,7 +82,7 @@ module _ (s : List ℕ) (i : ℕ) (es : List Entry) (v : Reading s i es) where
           ap (λ (l : List Entry). behind l (entries_in (64 - (i + 1)) (drop (entry_size * (i + 1)) s)))
           (ap (λ (k : ℕ). take k (set es i e)) (add-one i) ∙ take-suc-set es i e (omega (arith, v.places)))
           ∙ sym (behind-one (take i es) e (entries_in (64 - (i + 1)) (drop (entry_size * (i + 1)) s)))
-          ∙ ap left_by (sym (held_place (unpack_of entries (take entry_size part)) e h))
+          ∙ ap left_by (sym h)
           ∙ here;
     }
 

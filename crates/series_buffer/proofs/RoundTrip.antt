@@ -4,7 +4,7 @@ use Prim.Native.Nat.{ℕ, zero, suc, ◌*◌}
 use mathlib.Core.Path.{◌≡◌, refl, sym, ap, ap₂, ◌∙◌}
 use mathlib.Core.Bool.{Bool, true, ◌&&◌}
 use mathlib.Core.List.{List, [], ◌∷◌, ◌++◌}
-use mathlib.Core.Option.{Option, none, some}
+use Rattle.std.specs.Prelude.{Option, None, Some}
 use native.Mathlib.Omega.{arith}
 use lib.Dec.{eqb}
 use lib.ListN.{length, take, drop, length-append, length-drop, take-append-drop}
@@ -34,26 +34,26 @@ use Rattle.series_buffer.proofs.StateLaws.{fit_parts}
 record Joined (u : Option Entry) (v : Option (List Entry)) (es : List Entry) : Type 0 where
   one : Entry
   more : List Entry
-  is_one : u ≡ some one
-  is-more : v ≡ some more
+  is_one : u ≡ Some one
+  is-more : v ≡ Some more
   whole : es ≡ one ∷ more
 
-joined-some : (u : Option Entry) (v : Option (List Entry)) (es : List Entry) → joined u v ≡ some es → Joined u v es
-joined-some none v es h = absurd (let z : ◌≡◌ {A = ℕ} 0 1 = cc in omega arith)
-joined-some (some e) none es h = absurd (let z : ◌≡◌ {A = ℕ} 0 1 = cc in omega arith)
-joined-some (some e) (some l) es h = let q : e ∷ l ≡ es = cc in record { one = e; more = l; is_one = refl; is-more = refl; whole = sym q }
+joined-some : (u : Option Entry) (v : Option (List Entry)) (es : List Entry) → joined u v ≡ Some es → Joined u v es
+joined-some None v es h = absurd (let z : ◌≡◌ {A = ℕ} 0 1 = cc in omega arith)
+joined-some (Some e) None es h = absurd (let z : ◌≡◌ {A = ℕ} 0 1 = cc in omega arith)
+joined-some (Some e) (Some l) es h = let q : e ∷ l ≡ es = cc in record { one = e; more = l; is_one = refl; is-more = refl; whole = sym q }
 
 record Made (u : Option Header) (v : Option (List Entry)) (s : Series) : Type 0 where
   header : Header
   places : List Entry
-  is-header : u ≡ some header
-  is-places : v ≡ some places
+  is-header : u ≡ Some header
+  is-places : v ≡ Some places
   whole : s ≡ series_of header places
 
-made_some : (u : Option Header) (v : Option (List Entry)) (s : Series) → made u v ≡ some s → Made u v s
-made_some none v s h = absurd (let z : ◌≡◌ {A = ℕ} 0 1 = cc in omega arith)
-made_some (some h) none s q = absurd (let z : ◌≡◌ {A = ℕ} 0 1 = cc in omega arith)
-made_some (some h) (some l) s q = let w : series_of h l ≡ s = cc in record { header = h; places = l; is-header = refl; is-places = refl; whole = sym w }
+made_some : (u : Option Header) (v : Option (List Entry)) (s : Series) → made u v ≡ Some s → Made u v s
+made_some None v s h = absurd (let z : ◌≡◌ {A = ℕ} 0 1 = cc in omega arith)
+made_some (Some h) None s q = absurd (let z : ◌≡◌ {A = ℕ} 0 1 = cc in omega arith)
+made_some (Some h) (Some l) s q = let w : series_of h l ≡ s = cc in record { header = h; places = l; is-header = refl; is-places = refl; whole = sym w }
 
 -- ---- entries ----
 
@@ -62,7 +62,7 @@ pub record Placed (n : ℕ) (s : List ℕ) (es : List Entry) : Type 0 where
   pub pack : all (packs entries) es ≡ true
   pub bytes : entries_bytes es ≡ s
 
-entries-pack : (n : ℕ) (s : List ℕ) (es : List Entry) → Bytes s → length s ≡ entry_size * n → entries_in n s ≡ some es → Placed n s es
+entries-pack : (n : ℕ) (s : List ℕ) (es : List Entry) → Bytes s → length s ≡ entry_size * n → entries_in n s ≡ Some es → Placed n s es
 unfolding entries_in entries_bytes all
 entries-pack zero s es b l h =
     let q : ◌≡◌ {A = List Entry} [] es = cc in
@@ -79,7 +79,7 @@ entries-pack (suc n) s es b l h =
       bytes = ap entries_bytes j.whole ∙ ap₂ ◌++◌ (sym p.1) more.bytes ∙ take-append-drop entry_size s;
     }
 
-entries-unpack : (es : List Entry) → all (packs entries) es ≡ true → entries_in (length es) (entries_bytes es) ≡ some es
+entries-unpack : (es : List Entry) → all (packs entries) es ≡ true → entries_in (length es) (entries_bytes es) ≡ Some es
 unfolding entries_in entries_bytes all
 entries-unpack [] h = refl
 entries-unpack (e ∷ es) h =
@@ -93,7 +93,7 @@ entries-unpack (e ∷ es) h =
 -- ---- series ----
 
 -- THEOREM. Bytes that unpack to a series are what that series packs to
-pub series-pack : (s : List ℕ) (x : Series) → Bytes s → unpack_series s ≡ some x → pack_series x ≡ some s
+pub series-pack : (s : List ℕ) (x : Series) → Bytes s → unpack_series s ≡ Some x → pack_series x ≡ Some s
 unfolding unpack_series pack_series series_bytes
 series-pack s x b h =
     let p = only_if-some (eqb (length s) state_size) (made (unpack_of headers (take header_size s)) (entries_in 64 (drop header_size s))) x h in
@@ -104,16 +104,16 @@ series-pack s x b h =
     (unpack-pack headers of-header.lawful (take header_size s) m.header (bytes_take header_size s b) m.is-header) in
     let r = entries-pack 64 (drop header_size s) m.places (bytes_drop header_size s b) (omega (arith, length-drop header_size s, long)) m.is-places in
     ap pack_series m.whole
-    ∙ ap₂ (λ (c : Bool) (l : List ℕ). only_if c (some l))
+    ∙ ap₂ (λ (c : Bool) (l : List ℕ). only_if c (Some l))
     (fit_parts (series_of m.header m.places) f.0 r.number r.pack)
     (ap₂ ◌++◌ (sym f.1) r.bytes ∙ take-append-drop header_size s)
 
 -- THEOREM. What a series packs to unpacks to that series
-pub pack-series : (x : Series) (s : List ℕ) → pack_series x ≡ some s → unpack_series s ≡ some x
+pub pack-series : (x : Series) (s : List ℕ) → pack_series x ≡ Some s → unpack_series s ≡ Some x
 unfolding unpack_series pack_series packs_series series_bytes
 pack-series x s h =
-    let p = only_if-some (packs_series x) (some (series_bytes x)) s h in
-    let q : some (series_bytes x) ≡ some s = p.1 in
+    let p = only_if-some (packs_series x) (Some (series_bytes x)) s h in
+    let q : Some (series_bytes x) ≡ Some s = p.1 in
     let is : series_bytes x ≡ s = cc in
     let first = and_left (packs headers (header_of x)) _ p.0 in
     let rest = and_right (packs headers (header_of x)) _ p.0 in
@@ -135,7 +135,7 @@ pack-series x s h =
     ∙ entries-unpack x.book.entries fit))
 
 -- THEOREM. A series has one packed form: no two byte strings hold the same series
-pub one_state : (s t : List ℕ) (x : Series) → Bytes s → Bytes t → unpack_series s ≡ some x → unpack_series t ≡ some x → s ≡ t
+pub one_state : (s t : List ℕ) (x : Series) → Bytes s → Bytes t → unpack_series s ≡ Some x → unpack_series t ≡ Some x → s ≡ t
 one_state s t x b c h k =
     let p = series-pack s x b h in
     let q = series-pack t x c k in

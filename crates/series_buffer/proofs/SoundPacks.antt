@@ -4,7 +4,7 @@ use Prim.Native.Nat.{ℕ, ◌≤◌, ◌<◌}
 use mathlib.Core.Path.{◌≡◌, refl, sym, ap, subst, ◌∙◌}
 use mathlib.Core.Bool.{Bool, true, false, ◌&&◌}
 use mathlib.Core.List.{List, [], ◌∷◌, ◌++◌, map}
-use mathlib.Core.Option.{some}
+use Rattle.std.specs.Prelude.{Some}
 use native.Mathlib.Omega.{arith}
 use lib.Dec.{eqb, leb}
 use borrow.Author.Tests.{eqb-true}
@@ -23,7 +23,7 @@ use Rattle.book.specs.declared.Entry.{Entry}
 use Rattle.book.specs.declared.Pricing.{Pricing}
 use Rattle.book.specs.declared.Pricing.TheVariants.{Fixed, Dark, Sliding}
 use Rattle.book.specs.Shape.{entries_of}
-use Rattle.book.specs.Entries.{last_number}
+use Rattle.book.specs.Entries.{last_number, pricing_number}
 use Rattle.soundness_theory.specs.Sound.{unused_entry, sound_entries, sound_book}
 use Rattle.soundness_theory.proofs.Facts.{PricedAs, EntryFacts}
 use Rattle.soundness_theory.proofs.SoundFacts.{is-sound}
@@ -33,7 +33,7 @@ use Rattle.series.specs.Series.{sound_series, sound_terms, sound_phase}
 use Rattle.series.proofs.TermsLaws.{price-if-any}
 use Rattle.series.proofs.SeriesFacts.{SeriesFacts, series-facts}
 use Rattle.series_buffer.specs.Header.{headers}
-use Rattle.series_buffer.specs.Entry.{entries, pricing_number, own_display}
+use Rattle.series_buffer.specs.Entry.{entries, own_display}
 use Rattle.series_buffer.specs.State.{header_of, packs_series, series_bytes, pack_series}
 use Rattle.series_buffer.proofs.StateLaws.{fit_parts}
 
@@ -171,6 +171,6 @@ module _ (s : Series) (sound : sound_series s ≡ true) (places : length s.book.
   pub sound-packs : packs_series s ≡ true
   sound-packs = fit_parts s header-packs places entries-pack
 
-  pub sound-state : pack_series s ≡ some (series_bytes s)
+  pub sound-state : pack_series s ≡ Some (series_bytes s)
   unfolding pack_series
-  sound-state = ap (λ (b : Bool). only_if b (some (series_bytes s))) sound-packs
+  sound-state = ap (λ (b : Bool). only_if b (Some (series_bytes s))) sound-packs

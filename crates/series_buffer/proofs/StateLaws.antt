@@ -4,7 +4,7 @@ use Prim.Native.Nat.{ℕ, ◌-◌, ◌≤◌, ◌<◌}
 use mathlib.Core.Path.{◌≡◌, refl, sym, ap, ap₂, ◌∙◌}
 use mathlib.Core.Bool.{Bool, true, false, cond, ◌&&◌, and-false}
 use mathlib.Core.List.{List, ◌++◌, append-nil}
-use mathlib.Core.Option.{Option, none, some}
+use Rattle.std.specs.Prelude.{Option, None, Some}
 use native.Mathlib.Omega.{arith}
 use lib.Dec.{eqb}
 use lib.ListN.{length, take, drop, length-append, length-drop, drop_of_length-le}
@@ -16,26 +16,15 @@ use Rattle.packing.proofs.CodecLaws.{packs-fit, length-bytes}
 use Rattle.book.specs.declared.Entry.{Entry}
 use Rattle.series.specs.declared.Series.{Series}
 use Rattle.series_buffer.specs.declared.Header.{Header}
-use Rattle.series_buffer.specs.declared.head.Found.{Found}
-use Rattle.series_buffer.specs.declared.places.All.{All}
 use Rattle.series_buffer.specs.Header.{header_size, headers}
 use Rattle.series_buffer.specs.Entry.{entries}
-use Rattle.series_buffer.specs.State.{places_size, state_size, header_of, series_of, made, entries_in, unpack_series, header_found, entries_found}
+use Rattle.series_buffer.specs.State.{places_size, state_size, header_of, series_of, made, entries_in, unpack_series}
 use Rattle.series_buffer.specs.State.{packs_series, entries_bytes, series_bytes, is_stored, buffer_after}
 use Rattle.series_buffer.proofs.HeaderLaws.{lawful}
 use Rattle.series_buffer.proofs.PlacesLaws.{length-entries}
 
--- the answers for header and places say what their bytes unpack to
-pub header-said : (o : Option Header) (r : Found) → r ≡ header_found o → o ≡ only_if r.ok (some r.header)
-header-said none r e = sym (ap (λ (x : Found). only_if x.ok (some x.header)) e)
-header-said (some h) r e = sym (ap (λ (x : Found). only_if x.ok (some x.header)) e)
-
-pub entries-said : (o : Option (List Entry)) (r : All) → r ≡ entries_found o → o ≡ only_if r.ok (some r.entries)
-entries-said none r e = sym (ap (λ (x : All). only_if x.ok (some x.entries)) e)
-entries-said (some es) r e = sym (ap (λ (x : All). only_if x.ok (some x.entries)) e)
-
 module _ (s : List ℕ) where
-  pub other_length : (length s ≡ state_size → ⊥) → unpack_series s ≡ none
+  pub other_length : (length s ≡ state_size → ⊥) → unpack_series s ≡ None
   unfolding unpack_series
   other_length h =
       ap (λ (b : Bool). only_if b (made (unpack_of headers (take header_size s)) (entries_in 64 (drop header_size s)))) (ne_eqb (length s) state_size h)
@@ -46,24 +35,22 @@ module _ (s : List ℕ) where
     in_parts =
         ap (λ (b : Bool). only_if b (made (unpack_of headers (take header_size s)) (entries_in 64 (drop header_size s)))) (eq-eqb (length s) state_size long)
 
-    module _ (a : Bool) (h : Header) (header : unpack_of headers (take header_size s) ≡ only_if a (some h)) where
-      pub no_header : a ≡ false → unpack_series s ≡ none
-      no_header q = in_parts ∙ ap (λ (u : Option Header). made u (entries_in 64 (drop header_size s))) (header ∙ ap (λ (x : Bool). only_if x (some h)) q)
+    pub no_header : unpack_of headers (take header_size s) ≡ None → unpack_series s ≡ None
+    no_header q = in_parts ∙ ap (λ (u : Option Header). made u (entries_in 64 (drop header_size s))) q
 
-      module _ (there : a ≡ true) (part : List ℕ) (rest : part ≡ take (length s - header_size) (drop header_size s)) (b : Bool) (es : List Entry)
-          (read : entries_in 64 part ≡ only_if b (some es)) where
-        both : unpack_series s ≡ made (some h) (only_if b (some es))
-        both =
-            in_parts
-            ∙ ap₂ made
-            (header ∙ ap (λ (x : Bool). only_if x (some h)) there)
-            (ap (entries_in 64) (sym (rest ∙ take_all (length s - header_size) (drop header_size s) (omega (arith, length-drop header_size s)))) ∙ read)
+    module _ (h : Header) (header : unpack_of headers (take header_size s) ≡ Some h) (part : List ℕ)
+        (rest : part ≡ take (length s - header_size) (drop header_size s)) where
+      both : (u : Option (List Entry)) → entries_in 64 part ≡ u → unpack_series s ≡ made (Some h) u
+      both u read =
+          in_parts
+          ∙ ap₂ made header
+          (ap (entries_in 64) (sym (rest ∙ take_all (length s - header_size) (drop header_size s) (omega (arith, length-drop header_size s)))) ∙ read)
 
-        pub no-entries : b ≡ false → unpack_series s ≡ none
-        no-entries q = both ∙ ap (λ (x : Bool). made (some h) (only_if x (some es))) q
+      pub no-entries : entries_in 64 part ≡ None → unpack_series s ≡ None
+      no-entries = both None
 
-        pub all_there : b ≡ true → unpack_series s ≡ some (series_of h es)
-        all_there q = both ∙ ap (λ (x : Bool). made (some h) (only_if x (some es))) q
+      pub all_there : (es : List Entry) → entries_in 64 part ≡ Some es → unpack_series s ≡ Some (series_of h es)
+      all_there es = both (Some es)
 
     pub rest-size : length (take (length s - header_size) (drop header_size s)) ≡ places_size
     rest-size =

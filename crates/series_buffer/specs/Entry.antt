@@ -1,13 +1,12 @@
 -- The 24 bytes of one place of the book.
 -- Assumes nothing.
 use Rattle.std.specs.Prelude.{ℕ, true, cond, List, [], ◌∷◌, eqb, get_or}
-use Rattle.std.proofs.Math.Option.{Option, none, some}
+use Rattle.std.specs.Prelude.{Some}
 use Rattle.packing.specs.Codec.{Codec, bit}
+use Rattle.book.specs.Entries.{pricing_number}
 use Rattle.book.specs.declared.Entry.{Entry}
 use Rattle.book.specs.declared.Pricing.{Pricing}
 use Rattle.book.specs.declared.Pricing.TheVariants.{Fixed, Dark, Sliding}
-use Rattle.series_buffer.specs.declared.places.Place.{Place}
-use Rattle.series_buffer.specs.declared.places.Place.TheVariants.{Nothing, Holding}
 
 -- how many bytes one has
 abbrev pub entry_size : ℕ
@@ -17,12 +16,7 @@ entry_size = 24
 abbrev pub widths : List ℕ
 widths = 32 ∷ 32 ∷ 32 ∷ 32 ∷ 32 ∷ 8 ∷ 8 ∷ 8 ∷ 8 ∷ []
 
--- pricing: 0 fixed, 1 dark, 2 sliding; only a sliding entry has a display of its own here, and 0 stands for any other
-abbrev pub pricing_number : Pricing → ℕ
-pricing_number Fixed = 0
-pricing_number Dark = 1
-pricing_number (Sliding d) = 2
-
+-- only a sliding entry has a display of its own here, and 0 stands for any other
 abbrev pub own_display : Pricing → ℕ
 own_display Fixed = 0
 own_display Dark = 0
@@ -59,9 +53,4 @@ entry_by l = record {
 
 -- whether the values are legal is not asked here: that is soundness
 abbrev pub entries : Codec Entry
-entries = record { widths = widths; size = entry_size; code = code_of; claimed = λ l. some (entry_by l); admitted = λ _. true }
-
--- the answer in Rattle's type
-abbrev pub place_of : Option Entry → Place
-place_of none = Nothing
-place_of (some e) = Holding e
+entries = record { widths = widths; size = entry_size; code = code_of; claimed = λ l. Some (entry_by l); admitted = λ _. true }

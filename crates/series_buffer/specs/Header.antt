@@ -1,8 +1,10 @@
 -- The first 28 bytes of a packed series: its numbers, how many entries rest, and which makers are blocked.
 -- Assumes nothing.
-use Rattle.std.specs.Prelude.{ℕ, Bool, true, List, ◌∷◌, map, eqb, get_or, drop, replicate}
-use Rattle.std.proofs.Math.Option.{some}
-use Rattle.packing.specs.Codec.{Codec, bit}
+use Rattle.std.specs.Prelude.{ℕ, Bool, true, refl, List, ◌∷◌, map, eqb, get_or, drop, replicate}
+use Rattle.std.specs.Prelude.{Some}
+use Rattle.std.proofs.Common.{lit≤}
+use Rattle.bits.specs.Fields.{Narrow}
+use Rattle.packing.specs.Codec.{Codec, Tabled, bit}
 use Rattle.series_buffer.specs.declared.Header.{Header}
 
 -- how many bytes the header has
@@ -53,4 +55,12 @@ header_by l = record {
 
 -- whether the numbers are legal is not asked here: that is soundness
 abbrev pub headers : Codec Header
-headers = record { widths = widths; size = header_size; code = code_of; claimed = λ l. some (header_by l); admitted = λ _. true }
+headers = record { widths = widths; size = header_size; code = code_of; claimed = λ l. Some (header_by l); admitted = λ _. true }
+
+-- the code has this table
+pub tabled : Tabled headers widths 27 header_size
+tabled =
+    let last : Narrow (drop 18 widths) = (lit≤ tt, (lit≤ tt, (lit≤ tt, (lit≤ tt, (lit≤ tt, (lit≤ tt, (lit≤ tt, (lit≤ tt, (lit≤ tt, tt))))))))) in
+    let more : Narrow (drop 9 widths) = (lit≤ tt, (lit≤ tt, (lit≤ tt, (lit≤ tt, (lit≤ tt, (lit≤ tt, (lit≤ tt, (lit≤ tt, (lit≤ tt, last))))))))) in
+    let narrow : Narrow widths = (lit≤ tt, (lit≤ tt, (lit≤ tt, (lit≤ tt, (lit≤ tt, (lit≤ tt, (lit≤ tt, (lit≤ tt, (lit≤ tt, more))))))))) in
+    record { widths = refl; size = refl; few = lit≤ tt; layout = record { fills = refl; narrow = narrow; fields = refl; small = lit≤ tt } }

@@ -1,16 +1,12 @@
 -- A series in 1,564 bytes: 28 of its header, and 24 for each of the 64 places of its book.
 -- Assumes nothing.
-use Rattle.std.specs.Prelude.{ℕ, zero, suc, ◌+◌, ◌*◌, Bool, true, false, cond, ◌&&◌, List, [], ◌∷◌, ◌++◌, eqb, length, take, drop}
-use Rattle.std.proofs.Math.Option.{Option, none, some}
+use Rattle.std.specs.Prelude.{ℕ, zero, suc, ◌+◌, ◌*◌, Bool, cond, ◌&&◌, List, [], ◌∷◌, ◌++◌, eqb, length, take, drop}
+use Rattle.std.specs.Prelude.{Option, None, Some}
 use Rattle.lists.specs.Tests.{all}
 use Rattle.packing.specs.Codec.{only_if, bytes_of, packs, unpack_of}
 use Rattle.book.specs.declared.Entry.{Entry}
 use Rattle.series.specs.declared.Series.{Series}
-use Rattle.series.specs.Series.{no_series}
 use Rattle.series_buffer.specs.declared.Header.{Header}
-use Rattle.series_buffer.specs.declared.Unpacked.{Unpacked}
-use Rattle.series_buffer.specs.declared.head.Found.{Found}
-use Rattle.series_buffer.specs.declared.places.All.{All}
 use Rattle.series_buffer.specs.Header.{headers, header_size}
 use Rattle.series_buffer.specs.Entry.{entries, entry_size}
 
@@ -32,18 +28,18 @@ series_of h es = record { terms = h.terms; blocked = h.blocked; book = record { 
 
 -- n entries in a row, or none where one of them unpacks to nothing
 abbrev pub joined : Option Entry → Option (List Entry) → Option (List Entry)
-joined none more = none
-joined (some e) none = none
-joined (some e) (some es) = some (e ∷ es)
+joined None more = None
+joined (Some e) None = None
+joined (Some e) (Some es) = Some (e ∷ es)
 
 unfoldable pub entries_in : ℕ → List ℕ → Option (List Entry)
-entries_in zero s = some []
+entries_in zero s = Some []
 entries_in (suc n) s = joined (unpack_of entries (take entry_size s)) (entries_in n (drop entry_size s))
 
 abbrev pub made : Option Header → Option (List Entry) → Option Series
-made none es = none
-made (some h) none = none
-made (some h) (some es) = some (series_of h es)
+made None es = None
+made (Some h) None = None
+made (Some h) (Some es) = Some (series_of h es)
 
 -- WHAT BYTES UNPACK TO: another length, or a header or an entry that unpacks to nothing: no series
 unfoldable pub unpack_series : List ℕ → Option Series
@@ -64,23 +60,7 @@ packs_series s = packs headers (header_of s) && (eqb (length s.book.entries) 64 
 
 -- WHAT A SERIES PACKS TO
 unfoldable pub pack_series : Series → Option (List ℕ)
-pack_series s = only_if (packs_series s) (some (series_bytes s))
-
--- ---- the answers in Rattle's types ----
-
--- where there is no series, the answer holds one of zeros
-abbrev pub unpacked : Option Series → Unpacked
-unpacked none = record { ok = false; series = no_series }
-unpacked (some s) = record { ok = true; series = s }
-
--- where there is no header, the answer holds one of zeros; where a place is no entry's, 64 zero entries: those of that series
-abbrev pub header_found : Option Header → Found
-header_found none = record { ok = false; header = header_of no_series }
-header_found (some h) = record { ok = true; header = h }
-
-abbrev pub entries_found : Option (List Entry) → All
-entries_found none = record { ok = false; entries = no_series.book.entries }
-entries_found (some es) = record { ok = true; entries = es }
+pack_series s = only_if (packs_series s) (Some (series_bytes s))
 
 -- a series is put into a buffer of the right length if it packs, and otherwise the buffer stays as it was
 unfoldable pub is_stored : List ℕ → Series → Bool

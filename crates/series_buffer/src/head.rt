@@ -1,63 +1,14 @@
 // The header: 28 bytes.
-ghost use Rattle.std.specs.Prelude.{◌≡◌, map, ◌≤◌, length, take, drop};
+ghost use Rattle.std.specs.Prelude.{◌≡◌, map, ◌≤◌, length, take, drop, Some};
 ghost use Rattle.packing.specs.Codec.{bytes_of, packs, unpack_of};
-ghost use Rattle.series.specs.Series.{no_series};
-ghost use Rattle.series_buffer.specs.Header.{headers, code_of, is_set, header_by};
-ghost use Rattle.series_buffer.specs.State.{header_of, header_found};
+ghost use Rattle.series_buffer.specs.Header.{headers, widths, code_of, is_set, header_by, tabled};
 
 use crate::Header;
+use packing::codec::{self, Packs};
 use terms::Terms;
-
-// Whether there is a header, and which: zeros, if there is none.
-#[derive(Clone, Copy)]
-pub struct Found {
-    pub ok: bool,
-    pub header: Header,
-}
 
 // How many bytes it has.
 pub const SIZE: usize = 28;
-
-// The widths of the fields, in bits: M, K, strike, phase, away bid, away offer, underlying, given, put, exempt, count, then 16 makers.
-const WIDTHS: [u8; 27] = [
-    8, 8, 32, 8, 32, 32, 32, 32, 8, 8, 8, 1, 1, 1, 1, 1, 1, 1, 1, 1, 1, 1, 1, 1, 1, 1, 1,
-];
-
-fn code(h: Header) -> [u32; 27]
-    ensures { result ≡ code_of h }
-{
-    let t = h.terms;
-    let b = h.blocked;
-    [
-        t.m,
-        t.k,
-        t.strike,
-        t.phase,
-        t.bid,
-        t.offer,
-        t.underlying,
-        t.given,
-        t.put as u32,
-        t.exempt as u32,
-        h.count,
-        b[0] as u32,
-        b[1] as u32,
-        b[2] as u32,
-        b[3] as u32,
-        b[4] as u32,
-        b[5] as u32,
-        b[6] as u32,
-        b[7] as u32,
-        b[8] as u32,
-        b[9] as u32,
-        b[10] as u32,
-        b[11] as u32,
-        b[12] as u32,
-        b[13] as u32,
-        b[14] as u32,
-        b[15] as u32,
-    ]
-}
 
 fn flags(xs: [u32; 27]) -> [bool; 16]
     ensures { result ≡ map is_set (drop 11 xs) }
@@ -112,42 +63,64 @@ fn header_by(xs: [u32; 27]) -> Header
     }
 }
 
-// What stands where there is no header.
-fn no_header() -> Header
-    ensures { result ≡ header_of no_series }
-{
-    let xs = [0u32; 27];
-    header_by(xs)
+impl Packs<27, SIZE> for Header {
+    ghost codec = { headers };
+
+    ghost WIDTHS = { widths };
+
+    // M, K, strike, phase, away bid, away offer, underlying, given, put, exempt, count, then 16 makers.
+    const WIDTHS: [u8; 27] = [
+        8, 8, 32, 8, 32, 32, 32, 32, 8, 8, 8, 1, 1, 1, 1, 1, 1, 1, 1, 1, 1, 1, 1, 1, 1, 1, 1,
+    ];
+
+    fn code(self) -> [u32; 27] {
+        let t = self.terms;
+        let numbers = [
+            t.m,
+            t.k,
+            t.strike,
+            t.phase,
+            t.bid,
+            t.offer,
+            t.underlying,
+            t.given,
+            u32::from(t.put),
+            u32::from(t.exempt),
+            self.count,
+        ];
+        let mut xs = [0; 27];
+        xs[..11].copy_from_slice(&numbers);
+        xs[11..].copy_from_slice(&self.blocked.map(u32::from));
+        xs
+    }
+
+    fn claimed(xs: [u32; 27]) -> Option<Header>
+        ensures { result ≡ Some (header_by xs) }
+    {
+        Some(header_by(xs))
+    }
+
+    // Whether the numbers are legal is not asked here: that is soundness.
+    fn is_admitted(self) -> bool {
+        true
+    }
+
+    ghost tabled = { tabled };
 }
 
 // The header of the first 28 bytes, if they are just its own.
-pub fn unpack(s: &[u8]) -> Found
+pub fn unpack(s: &[u8]) -> Option<Header>
     requires { headers.size ≤ length s.now }
-    ensures { result ≡ header_found (unpack_of headers (take headers.size s.now)) }
+    ensures { result ≡ unpack_of headers (take headers.size s.now) }
 {
-    let mut xs = [0u32; 27];
-    let ws = WIDTHS;
-    bits::reader::read_all(s, SIZE, &ws, &mut xs);
-    let header = header_by(xs);
-    let ys = code(header);
-    let ok = bits::tests::same(&ys, &xs);
-    if !ok {
-        let zeros = no_header();
-        return Found {
-            ok: false,
-            header: zeros,
-        };
-    }
-    Found { ok, header }
+    codec::unpack(&s[..SIZE])
 }
 
 // Whether each of its numbers fits its width.
 pub fn fits(header: Header) -> bool
     ensures { result ≡ packs headers header }
 {
-    let xs = code(header);
-    let ws = WIDTHS;
-    bits::tests::fits(&ws, &xs)
+    codec::fits(header)
 }
 
 // Writes the 28 bytes.
@@ -155,7 +128,5 @@ pub fn write(out: &mut [u8], header: Header)
     requires { length out.old ≡ headers.size }
     ensures { out.new ≡ bytes_of headers (code_of header) }
 {
-    let xs = code(header);
-    let ws = WIDTHS;
-    bits::writer::write_all(out, &ws, &xs)
+    codec::write_over(out, header)
 }

@@ -28,7 +28,6 @@
 //     23      1  pricing: 0 fixed, 1 dark, 2 sliding
 #![tactic(auto)]
 
-use series::Series;
 use terms::Terms;
 
 pub mod head;
@@ -42,11 +41,4 @@ pub struct Header {
     pub count: u32,
     // maker 1 first
     pub blocked: [bool; 16],
-}
-
-// A series, or none: an enum cannot hold a series, since that holds an array.
-#[derive(Clone, Copy)]
-pub struct Unpacked {
-    pub ok: bool,
-    pub series: Series,
 }

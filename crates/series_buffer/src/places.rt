@@ -1,45 +1,21 @@
 // The places of the book: 24 bytes each.
-ghost use Rattle.std.specs.Prelude.{◌≡◌, ◌≤◌, ◌<◌, length, take, get_or};
+ghost use Rattle.std.specs.Prelude.{◌≡◌, ◌≤◌, ◌<◌, length, take, get_or, Some};
+ghost use Rattle.std.specs.List.{list_all};
 ghost use Rattle.lists.specs.Tests.{all};
-ghost use Rattle.series.specs.Series.{no_series};
+ghost use Rattle.bits.specs.Fields.{Fit};
 ghost use Rattle.packing.specs.Codec.{bytes_of, packs, unpack_of};
-ghost use Rattle.series_buffer.specs.Entry.{entries, code_of, pricing_number, own_display, pricing_by, entry_by, place_of};
-ghost use Rattle.series_buffer.specs.State.{places_size, entries_in, entries_found, entries_bytes};
+ghost use Rattle.series_buffer.specs.Entry.{entries, widths, code_of, own_display, pricing_by, entry_by};
+ghost use Rattle.series_buffer.specs.Place.{places, tabled};
+ghost use Rattle.series_buffer.specs.State.{places_size, entries_in, entries_bytes};
 
-use book::entries::zero_entry;
+use book::entries::{pricing_number, zero_entry};
 use book::{Entry, Pricing};
-
-// What a place holds: an entry, or bytes that are no entry's.
-#[derive(Clone, Copy)]
-pub enum Place {
-    Nothing,
-    Holding(Entry),
-}
-
-// Whether each of the 64 places holds one, and which: zeros, if one of them does not.
-#[derive(Clone, Copy)]
-pub struct All {
-    pub ok: bool,
-    pub entries: [Entry; 64],
-}
+use packing::codec::{self, Packs};
 
 // How many bytes one has, and all of them.
 pub const SIZE: usize = 24;
 
 pub const ALL: usize = 64 * SIZE;
-
-// The widths of the fields, in bits: number, limit, quantity, working price, display, party, kind, side, pricing.
-const WIDTHS: [u8; 9] = [32, 32, 32, 32, 32, 8, 8, 8, 8];
-
-fn pricing_number(p: Pricing) -> u32
-    ensures { result ≡ pricing_number p }
-{
-    match p {
-        Pricing::Fixed => 0,
-        Pricing::Dark => 1,
-        Pricing::Sliding(_) => 2,
-    }
-}
 
 fn own_display(p: Pricing) -> u32
     ensures { result ≡ own_display p }
@@ -49,25 +25,6 @@ fn own_display(p: Pricing) -> u32
         Pricing::Dark => 0,
         Pricing::Sliding(d) => d,
     }
-}
-
-fn code(e: Entry) -> [u32; 9]
-    ensures { result ≡ code_of e }
-{
-    let p = e.pricing;
-    let display = own_display(p);
-    let pricing = pricing_number(p);
-    [
-        e.number,
-        e.limit,
-        e.quantity,
-        e.working,
-        display,
-        e.party as u32,
-        e.kind as u32,
-        e.sell as u32,
-        pricing,
-    ]
 }
 
 fn pricing_by(n: u32, display: u32) -> Pricing
@@ -99,84 +56,102 @@ fn entry_by(xs: [u32; 9]) -> Entry
     }
 }
 
-// The entry of the first 24 bytes, if they are just its own.
-fn unpack(s: &[u8]) -> Place
-    requires { entries.size ≤ length s.now }
-    ensures { result ≡ place_of (unpack_of entries (take entries.size s.now)) }
-{
-    let mut xs = [0u32; 9];
-    let ws = WIDTHS;
-    bits::reader::read_all(s, SIZE, &ws, &mut xs);
-    let entry = entry_by(xs);
-    let ys = code(entry);
-    let ok = bits::tests::same(&ys, &xs);
-    if !ok {
-        return Place::Nothing;
-    }
-    Place::Holding(entry)
+// An entry where it stands: a type of this crate, so that it can be said here how it packs.
+#[derive(Clone, Copy)]
+struct Place {
+    entry: Entry,
 }
 
-// What stands where there are no entries.
-fn no_entries() -> [Entry; 64]
-    ensures { result ≡ no_series.book.entries }
+impl Packs<9, SIZE> for Place {
+    ghost codec = { places };
+
+    ghost WIDTHS = { widths };
+
+    // Number, limit, quantity, working price, display, party, kind, side, pricing.
+    const WIDTHS: [u8; 9] = [32, 32, 32, 32, 32, 8, 8, 8, 8];
+
+    fn code(self) -> [u32; 9] {
+        let e = self.entry;
+        [
+            e.number,
+            e.limit,
+            e.quantity,
+            e.working,
+            own_display(e.pricing),
+            u32::from(e.party),
+            u32::from(e.kind),
+            u32::from(e.sell),
+            pricing_number(e.pricing),
+        ]
+    }
+
+    // Fields that fit have a party and a kind of one byte each.
+    fn claimed(xs: [u32; 9]) -> Option<Place>
+        requires { Fit widths xs }
+        ensures { result ≡ Some (record { entry = entry_by xs }) }
+    {
+        let entry = entry_by(xs);
+        Some(Place { entry })
+    }
+
+    // Whether the values are legal is not asked here: that is soundness.
+    fn is_admitted(self) -> bool {
+        true
+    }
+
+    ghost tabled = { tabled };
+}
+
+// The entry of the first 24 bytes, if they are just its own.
+fn unpack(s: &[u8]) -> Option<Entry>
+    requires { entries.size ≤ length s.now }
+    ensures { result ≡ unpack_of entries (take entries.size s.now) }
 {
-    let unused = zero_entry();
-    [unused; 64]
+    let place: Place = codec::unpack(&s[..SIZE])?;
+    Some(place.entry)
 }
 
 // The 64 places, if each of them is an entry's.
-pub fn unpack_all(s: &[u8]) -> All
+pub fn unpack_all(s: &[u8]) -> Option<[Entry; 64]>
     requires { length s.now ≡ places_size }
-    ensures { result ≡ entries_found (entries_in 64 s.now) }
+    ensures { result ≡ entries_in 64 s.now }
 {
-    let mut entries = no_entries();
-    let mut i = 0usize;
-    while i < 64 {
+    let unused = zero_entry();
+    let mut entries = [unused; 64];
+    for i in 0..64usize {
         let at = SIZE * i;
-        let place = unpack(&s[at..]);
-        let Place::Holding(entry) = place else {
-            let zeros = no_entries();
-            return All {
-                ok: false,
-                entries: zeros,
-            };
-        };
-        entries[i] = entry;
-        i += 1;
+        entries[i] = unpack(&s[at..])?;
     }
-    All { ok: true, entries }
+    Some(entries)
 }
 
 // Whether each of its numbers fits its width.
-fn fits(e: Entry) -> bool
-    ensures { result ≡ packs entries e }
+#[tactic(auto, unfolding(packing::specs::Codec::packs))]
+fn fits(entry: Entry) -> bool
+    ensures { result ≡ packs entries entry }
 {
-    let xs = code(e);
-    let ws = WIDTHS;
-    bits::tests::fits(&ws, &xs)
+    codec::fits(Place { entry })
+}
+
+fn each_fits(places: &[Entry]) -> bool
+    ensures { result ≡ list_all (packs entries) places.now }
+{
+    places.iter().all(|e| fits(*e))
 }
 
 pub fn all_fit(places: [Entry; 64]) -> bool
     ensures { (result ≡ all (packs entries) places) × (length places ≡ 64) }
 {
-    let mut i = 0usize;
-    while i < 64 {
-        if !fits(places[i]) {
-            return false;
-        }
-        i += 1;
-    }
-    true
+    each_fits(&places)
 }
 
 // Writes the 24 bytes of one.
-fn write(out: &mut [u8], e: Entry)
+#[tactic(auto, unfolding(packing::specs::Codec::bytes_of))]
+fn write(out: &mut [u8], entry: Entry)
     requires { length out.old ≡ entries.size }
-    ensures { out.new ≡ bytes_of entries (code_of e) }
+    ensures { out.new ≡ bytes_of entries (code_of entry) }
 {
-    let xs = code(e);
-    let ws = WIDTHS;
-    bits::writer::write_all(out, &ws, &xs)
+    codec::write_over(out, Place { entry })
 }
 
 // Writes the 64 places.
@@ -184,11 +159,9 @@ pub fn write_all(out: &mut [u8], places: [Entry; 64])
     requires { length out.old ≡ places_size }
     ensures { out.new ≡ entries_bytes places }
 {
-    let mut i = 0usize;
-    while i < 64 {
+    for i in 0..64usize {
         let at = SIZE * i;
         let end = at + SIZE;
         write(&mut out[at..end], places[i]);
-        i += 1;
     }
 }

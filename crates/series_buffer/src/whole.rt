@@ -1,22 +1,13 @@
 // A whole series.
-ghost use Rattle.std.specs.Prelude.{◌≡◌, false, ◌<◌, length};
-ghost use Rattle.series.specs.Series.{no_series};
-ghost use Rattle.series_buffer.specs.State.{state_size, header_of, series_of, unpack_series, series_bytes, unpacked, is_stored, buffer_after};
+ghost use Rattle.std.specs.Prelude.{◌≡◌, ◌<◌, length};
+ghost use Rattle.series_buffer.specs.State.{state_size, header_of, series_of, unpack_series, series_bytes, is_stored, buffer_after};
 
-use crate::{Header, Unpacked, head, places};
+use crate::{Header, head, places};
 use book::{Book, Entry};
 use series::Series;
-use series::open::no_series;
 
 // How many bytes a series has.
 pub const SIZE: usize = head::SIZE + places::ALL;
-
-fn nothing() -> Unpacked
-    ensures { result ≡ record { ok = false; series = no_series } }
-{
-    let series = no_series();
-    Unpacked { ok: false, series }
-}
 
 fn series_of(h: Header, entries: [Entry; 64]) -> Series
     ensures { result ≡ series_of h entries }
@@ -33,24 +24,16 @@ fn series_of(h: Header, entries: [Entry; 64]) -> Series
 }
 
 // The series that a buffer holds, or none.
-pub fn unpack_series(bytes: &[u8]) -> Unpacked
-    ensures { result ≡ unpacked (unpack_series bytes.now) }
+pub fn unpack_series(bytes: &[u8]) -> Option<Series>
+    ensures { result ≡ unpack_series bytes.now }
 {
     if bytes.len() != SIZE {
-        return nothing();
+        return None;
     }
-    let first = head::unpack(bytes);
-    if !first.ok {
-        return nothing();
-    }
-    let rest = places::unpack_all(&bytes[head::SIZE..]);
-    if !rest.ok {
-        return nothing();
-    }
-    let h = first.header;
-    let entries = rest.entries;
+    let h = head::unpack(bytes)?;
+    let entries = places::unpack_all(&bytes[head::SIZE..])?;
     let series = series_of(h, entries);
-    Unpacked { ok: true, series }
+    Some(series)
 }
 
 fn header_of(s: Series) -> Header

@@ -4,7 +4,7 @@ use Prim.Native.Nat.{ℕ, ◌≤◌}
 use mathlib.Core.Path.{◌≡◌, refl, sym, ◌∙◌, subst}
 use mathlib.Core.Bool.{Bool, true, false, cond, not}
 use mathlib.Core.List.{List}
-use mathlib.Core.Option.{Option, none, some}
+use Rattle.std.specs.Prelude.{Option, None, Some}
 use native.Mathlib.Omega.{arith}
 use lib.Dec.{ltb}
 use lib.ListN.{length, drop}
@@ -57,8 +57,8 @@ module _ (s : Series) (message room : List ℕ) (sound : sound_series s ≡ true
 
   event-foretold : (u : Option Event) → Foretells (fault_of s.terms.m u) (judges u)
   unfolding judges
-  event-foretold none = record { fault = λ h. refl; none = λ h n low high k. omega (arith, h) }
-  event-foretold (some e) = record {
+  event-foretold None = record { fault = λ h. refl; none = λ h n low high k. omega (arith, h) }
+  event-foretold (Some e) = record {
     fault = λ h. first-front (faults s.terms.m (ask_of e)) (drop 3 (refusals s (ask_of e))) h;
     none = λ h n low high k.
         first-other (drop 3 (refusals s (ask_of e))) n (

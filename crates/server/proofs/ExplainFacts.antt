@@ -4,11 +4,12 @@ use Prim.Native.Nat.{ℕ, ◌≤◌, ◌<◌}
 use mathlib.Core.Path.{◌≡◌, refl, sym, ap, ◌∙◌}
 use mathlib.Core.Bool.{Bool, true, false, cond, not}
 use mathlib.Core.List.{List}
-use mathlib.Core.Option.{Option, none, some}
+use Rattle.std.specs.Prelude.{Option, None, Some}
 use native.Mathlib.Omega.{arith}
 use lib.Dec.{eqb, leb, ltb}
 use lib.ListN.{length}
 use borrow.Author.Tests.{eqb-true, eq-eqb, ne_eqb, le-leb, lt-leb}
+use Rattle.std.specs.Prelude.{Ok}
 use Rattle.packing.specs.declared.message.Event.{Event}
 use Rattle.packing.specs.declared.report.Report.{Report}
 use Rattle.packing.specs.declared.report.Report.TheVariants.{Noted, Rejected, Traded, Rested, Repriced, Cancelled}
@@ -17,9 +18,8 @@ use Rattle.packing.specs.Message.{messages}
 use Rattle.packing.specs.Room.{room_size, report_at}
 use Rattle.series.specs.declared.Series.{Series}
 use Rattle.handler.specs.declared.Ask.{Ask}
-use Rattle.handler.specs.declared.Answer.{Answer}
 use Rattle.handler.specs.Asked.{ask_of}
-use Rattle.handler.specs.Handle.{Handled, first_of, handled_as, handled}
+use Rattle.handler.specs.Handle.{Answered, Handled, first_of, handled_as, handled}
 use Rattle.series_buffer.specs.State.{unpack_series}
 use Rattle.why.specs.Why.{Explained, numbers_of, in_lent, unexplained, why_of, refusal_at, explained_by, explained_as, explained}
 use Rattle.why.proofs.WhyTrue.{WhyTrue, why-true}
@@ -27,15 +27,15 @@ use Rattle.server.specs.Serve.{Served, unserved, packed_again, serve_in, serve_a
 use Rattle.server.specs.Explain.{Reply, in_numbers, explain_in, explain_held, explain}
 
 -- what is told of a report is never a refusal
-told-accepted : (s : Series) (event : Option Event) (report : Option Report) → (numbers_of (why_of s event report)).refusal ≡ 0
-told-accepted s none report = refl
-told-accepted s (some e) none = refl
-told-accepted s (some e) (some Noted) = refl
-told-accepted s (some e) (some (Rejected why sell party number limit quantity)) = refl
-told-accepted s (some e) (some (Traded sell party number other price quantity)) = refl
-told-accepted s (some e) (some (Rested sell party number display working quantity)) = refl
-told-accepted s (some e) (some (Repriced sell party number display working quantity)) = refl
-told-accepted s (some e) (some (Cancelled why sell party number limit quantity)) = refl
+told-accepted : (s : Series) (event : Option Event) (report : Option Report) → (numbers_of (Ok (why_of s event report))).refusal ≡ 0
+told-accepted s None report = refl
+told-accepted s (Some e) None = refl
+told-accepted s (Some e) (Some Noted) = refl
+told-accepted s (Some e) (Some (Rejected why sell party number limit quantity)) = refl
+told-accepted s (Some e) (Some (Traded sell party number other price quantity)) = refl
+told-accepted s (Some e) (Some (Rested sell party number display working quantity)) = refl
+told-accepted s (Some e) (Some (Repriced sell party number display working quantity)) = refl
+told-accepted s (Some e) (Some (Cancelled why sell party number limit quantity)) = refl
 
 -- ---- the order of refusals ----
 
@@ -47,10 +47,10 @@ pub record Follows (place : ℕ) (served : Served) (x : Reply) : Type 0 where
   pub within : served.refusal ≡ 0 → place < served.count → x.numbers.refusal ≡ 0
   pub reports : served.refusal ≡ 0 → place < served.count → x.room ≡ served.room
 
-refusal-own : (r : Answer) (place : ℕ) → (r.refusal ≡ 0 → ⊥) → refusal_at r place ≡ r.refusal
+refusal-own : (r : Answered) (place : ℕ) → (r.refusal ≡ 0 → ⊥) → refusal_at r place ≡ r.refusal
 refusal-own r place n = ap (λ (b : Bool). first_of (not b) r.refusal (leb r.count place) 12) (ne_eqb r.refusal 0 n)
 
-refusal-last : (r : Answer) (place : ℕ) → r.refusal ≡ 0 → (b : Bool) → leb r.count place ≡ b → refusal_at r place ≡ cond b 12 0
+refusal-last : (r : Answered) (place : ℕ) → r.refusal ≡ 0 → (b : Bool) → leb r.count place ≡ b → refusal_at r place ≡ cond b 12 0
 refusal-last r place z b q =
     ap (λ (c : Bool). first_of (not c) r.refusal (leb r.count place) 12) (eq-eqb r.refusal 0 z)
     ∙ ap (λ (c : Bool). cond c 12 0) q
@@ -58,7 +58,7 @@ refusal-last r place z b q =
 module _ (s : Series) (event : Option Event) (place : ℕ) (room : List ℕ) (h : Handled) where
   -- by the refusal, and whether that is none
   abbrev told : ℕ → Bool → Reply
-  told why accepts = in_numbers (cond accepts (in_lent (why_of s event (report_at h.room place)) h.room) (unexplained why room))
+  told why accepts = in_numbers (cond accepts (in_lent (Ok (why_of s event (report_at h.room place))) h.room) (unexplained why room))
 
   told-refusal : (why : ℕ) (b : Bool) → eqb why 0 ≡ b → (told why b).numbers.refusal ≡ why
   told-refusal why true q = told-accepted s event (report_at h.room place) ∙ sym (eqb-true why 0 q)
@@ -91,14 +91,14 @@ why-follows state message place room = by (ltb (length room) room_size) (unpack_
           within = λ z l. absurd (omega (arith, z));
           reports = λ z l. absurd (omega (arith, z));
         }
-    by false none =
+    by false None =
         record {
           own = λ n. refl;
           beyond = λ z l. absurd (omega (arith, z));
           within = λ z l. absurd (omega (arith, z));
           reports = λ z l. absurd (omega (arith, z));
         }
-    by false (some s) = handled-follows s (unpack_of messages message) place room (handled_as s (unpack_of messages message) room) state
+    by false (Some s) = handled-follows s (unpack_of messages message) place room (handled_as s (unpack_of messages message) room) state
 
 -- ---- refusals ----
 
@@ -123,8 +123,8 @@ why-refused-keeps state message place room h = by (ltb (length room) room_size) 
         → ((in_numbers (cond c (unexplained 10 room) (explain_in (unpack_of messages message) place room o))).numbers.refusal ≡ 0 → ⊥)
         → Untold room (in_numbers (cond c (unexplained 10 room) (explain_in (unpack_of messages message) place room o)))
     by true o k = record { rule = refl; first = refl; second = refl; reports = refl }
-    by false none k = record { rule = refl; first = refl; second = refl; reports = refl }
-    by false (some s) k =
+    by false None k = record { rule = refl; first = refl; second = refl; reports = refl }
+    by false (Some s) k =
         let x = handled_as s (unpack_of messages message) room in
         let why = refusal_at x.answer place in
         keeps s (unpack_of messages message) x why (eqb why 0) k
@@ -138,16 +138,16 @@ pub record TrueReply (s : Series) (a : Ask) (place : ℕ) (h : Handled) (x : Rep
   pub true-of-it : WhyTrue s a place h explained
 
 -- WHAT C IS TOLD IS TRUE, for every accepted message and every place below the count
-pub why-serves-truth : (state message : List ℕ) (place : ℕ) (room : List ℕ) (s : Series) (e : Event) → unpack_series state ≡ some s
-    → unpack_of messages message ≡ some e → (serve state message room).refusal ≡ 0 → place < (serve state message room).count
+pub why-serves-truth : (state message : List ℕ) (place : ℕ) (room : List ℕ) (s : Series) (e : Event) → unpack_series state ≡ Some s
+    → unpack_of messages message ≡ Some e → (serve state message room).refusal ≡ 0 → place < (serve state message room).count
     → TrueReply s (ask_of e) place (handled s message room) (explain state message place room)
 unfolding serve serve_as handled explain explain_held explained
 why-serves-truth state message place room s e held read free more =
     rw held (by (ltb (length room) room_size) (rw held at free) (rw held at more))
   where
-    by : (c : Bool) → (cond c (unserved 10 state room) (serve_in state (unpack_of messages message) room (some s))).refusal ≡ 0
-        → place < (cond c (unserved 10 state room) (serve_in state (unpack_of messages message) room (some s))).count
+    by : (c : Bool) → (cond c (unserved 10 state room) (serve_in state (unpack_of messages message) room (Some s))).refusal ≡ 0
+        → place < (cond c (unserved 10 state room) (serve_in state (unpack_of messages message) room (Some s))).count
         → TrueReply s (ask_of e) place (handled s message room)
-        (in_numbers (cond c (unexplained 10 room) (explain_in (unpack_of messages message) place room (some s))))
+        (in_numbers (cond c (unexplained 10 room) (explain_in (unpack_of messages message) place room (Some s))))
     by true z l = absurd (omega (arith, z))
     by false z l = record { explained = explained s message place room; told = refl; true-of-it = why-true s message room place e read z l }

@@ -4,7 +4,7 @@ use Prim.Native.Nat.{ℕ, ◌≤◌, ◌-◌}
 use mathlib.Core.Path.{◌≡◌, refl, sym, ap, ◌∙◌}
 use mathlib.Core.Bool.{Bool, true, false, cond, ◌&&◌}
 use mathlib.Core.List.{List, [], ◌∷◌, map}
-use mathlib.Core.Option.{Option, none, some}
+use Rattle.std.specs.Prelude.{Option, None, Some}
 use native.Mathlib.Omega.{arith}
 use lib.Dec.{eqb, ltb}
 use lib.ListN.{length, set, replicate, length-set, length-map}
@@ -56,8 +56,8 @@ refused-keeps state message room b h = by (ltb (length room) room_size) (unpack_
         → ((cond c (unserved 10 state room) (serve_in state (unpack_of messages message) room o)).refusal ≡ 0 → ⊥)
         → Kept state room (cond c (unserved 10 state room) (serve_in state (unpack_of messages message) room o))
     by true o q k = record { count = refl; buffer = refl; reports = refl }
-    by false none q k = record { count = refl; buffer = refl; reports = refl }
-    by false (some s) q k =
+    by false None q k = record { count = refl; buffer = refl; reports = refl }
+    by false (Some s) q k =
         let u = refusals-keep s message room k in
         record {
           count = u.count;
@@ -66,7 +66,7 @@ refused-keeps state message room b h = by (ltb (length room) room_size) (unpack_
         }
 
 -- A BUFFER THAT HOLDS NO SOUND SERIES IS REFUSAL 11, whatever its bytes and the message
-pub unsound-11 : (state message room : List ℕ) → room_size ≤ length room → ((s : Series) → unpack_series state ≡ some s → sound_series s ≡ false)
+pub unsound-11 : (state message room : List ℕ) → room_size ≤ length room → ((s : Series) → unpack_series state ≡ Some s → sound_series s ≡ false)
     → (serve state message room).refusal ≡ 11
 unfolding serve serve_as handled_as
 unsound-11 state message room space damaged =
@@ -75,8 +75,8 @@ unsound-11 state message room space damaged =
     ∙ by (unpack_series state) refl
   where
     by : (o : Option Series) → unpack_series state ≡ o → (serve_in state (unpack_of messages message) room o).refusal ≡ 11
-    by none q = refl
-    by (some s) q = rw (le-ltb (length room) room_size space, damaged s q) refl
+    by None q = refl
+    by (Some s) q = rw (le-ltb (length room) room_size space, damaged s q) refl
 
 -- ---- accepted messages ----
 
@@ -104,11 +104,11 @@ makers-after s a = by (enables a.kind) (quotes a.kind && blocks s.terms (comer s
 
 pub record AcceptedIn (state message : List ℕ) (x : Served) : Type 0 where
   pub before : Series
-  pub held : unpack_series state ≡ some before
+  pub held : unpack_series state ≡ Some before
   pub event : Event
-  pub read : unpack_of messages message ≡ some event
+  pub read : unpack_of messages message ≡ Some event
   pub bytes : x.state ≡ series_bytes (series_after before (ask_of event))
-  pub holds : unpack_series x.state ≡ some (series_after before (ask_of event))
+  pub holds : unpack_series x.state ≡ Some (series_after before (ask_of event))
   pub sound : sound_series (series_after before (ask_of event)) ≡ true
 
 -- AN ACCEPTED MESSAGE LEAVES THE SERIES AFTERWARDS IN THE BUFFER, packed, and that series is sound
@@ -120,14 +120,14 @@ accepted-holds state message room b h = by (ltb (length room) room_size) (unpack
         → (cond c (unserved 10 state room) (serve_in state (unpack_of messages message) room o)).refusal ≡ 0
         → AcceptedIn state message (cond c (unserved 10 state room) (serve_in state (unpack_of messages message) room o))
     by true o q z = absurd (omega (arith, z))
-    by false none q z = absurd (omega (arith, z))
-    by false (some s) q z =
+    by false None q z = absurd (omega (arith, z))
+    by false (Some s) q z =
         let way = accepting s message room z in
         let a : Ask = ask_of way.event in
         let ok = accepts s way.event way.sound way.passes in
         let is = handled-accepted s message room way.space way.sound way.event way.read way.passes in
-        let fit = (only_if-some (packs_series s) (some (series_bytes s)) state (series-pack state s b q)).0 in
-        let packed : pack_series (series_after s a) ≡ some (series_bytes (series_after s a)) =
+        let fit = (only_if-some (packs_series s) (Some (series_bytes s)) state (series-pack state s b q)).0 in
+        let packed : pack_series (series_after s a) ≡ Some (series_bytes (series_after s a)) =
         sound-state (series_after s a) (after-sound s a ok) (book-well-formed _ (done-part s a ok).size).places (makers-after s a ∙ packs-makers s fit) in
         let there : holding state (pack_series (handled s message room).answer.series) ≡ series_bytes (series_after s a) =
         ap (λ (x : Handled). holding state (pack_series x.answer.series)) is ∙ ap (holding state) packed in
@@ -145,8 +145,8 @@ accepted-holds state message room b h = by (ltb (length room) room_size) (unpack
 
 pub record SetIn (bytes : List ℕ) (x : SetUp) : Type 0 where
   pub setup : Setup
-  pub read : unpack_of setups bytes ≡ some setup
-  pub holds : unpack_series x.state ≡ some (new_series setup)
+  pub read : unpack_of setups bytes ≡ Some setup
+  pub holds : unpack_series x.state ≡ Some (new_series setup)
   pub sound : sound_series (new_series setup) ≡ true
 
 -- a legal setup, by whether the buffer is long enough
@@ -160,11 +160,11 @@ setup-holds bytes state h = by (unpack_of setups bytes) refl (eqb (length state)
   where
     by : (u : Option Setup) → unpack_of setups bytes ≡ u → (b : Bool) → eqb (length state) state_size ≡ b → (set_up state u).refusal ≡ 0
         → SetIn bytes (set_up state u)
-    by none q b l z = absurd (omega (arith, z))
-    by (some s) q false l z =
+    by None q b l z = absurd (omega (arith, z))
+    by (Some s) q false l z =
         let n : ◌≡◌ {A = ℕ} 11 0 = sym (ap (λ (c : Bool). (put state s c).refusal) l) ∙ z in
         absurd (omega (arith, n))
-    by (some s) q true l z =
+    by (Some s) q true l z =
         let sound = (sound-series-decides (new_series s)).1 (setup-sound bytes s q) in
         record {
           setup = s;
@@ -180,7 +180,7 @@ pub setup-keeps : (bytes state : List ℕ) → ((set_up state (unpack_of setups 
 setup-keeps bytes state h = by (unpack_of setups bytes) (eqb (length state) state_size) refl h
   where
     by : (u : Option Setup) (b : Bool) → eqb (length state) state_size ≡ b → ((set_up state u).refusal ≡ 0 → ⊥) → (set_up state u).state ≡ state
-    by none b l k = refl
-    by (some s) false l k = ap (λ (c : Bool). (put state s c).state) l
-    by (some s) true l k =
+    by None b l k = refl
+    by (Some s) false l k = ap (λ (c : Bool). (put state s c).state) l
+    by (Some s) true l k =
         absurd (k (ap (λ (c : Bool). (put state s c).refusal) l))

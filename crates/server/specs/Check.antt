@@ -1,7 +1,7 @@
 -- What the server asks of a byte string with no series at hand.
 -- Assumes nothing.
 use Rattle.std.specs.Prelude.{ℕ, Bool, cond, List, [], ◌∷◌}
-use Rattle.std.proofs.Math.Option.{Option, none, some}
+use Rattle.std.specs.Prelude.{Option, None, Some}
 use Rattle.lists.specs.Tests.{first_holding}
 use Rattle.prices.specs.Step.{mpv}
 use Rattle.packing.specs.declared.message.Event.{Event}
@@ -21,8 +21,8 @@ faults m a = (2, bad_party a) ∷ (3, bad_price m a) ∷ (4, bad_quantity a) ∷
 
 -- "A message that unpacks to no event stops there with refusal 1."
 abbrev pub fault_of : ℕ → Option Event → ℕ
-fault_of m none = nothing
-fault_of m (some e) = first_holding (faults m (ask_of e))
+fault_of m None = nothing
+fault_of m (Some e) = first_holding (faults m (ask_of e))
 
 -- WHICH OF THE REFUSALS 1 TO 4 a series with this M gives the message, 0 for none of them; 11 for an M that is not 1 or 5, since no
 -- sound series has it

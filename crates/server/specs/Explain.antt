@@ -1,7 +1,7 @@
 -- WHY, for a caller who keeps the series in a buffer of 1,564 bytes: `explained` on the unpacked series, told in numbers.
 -- Assumes nothing.
 use Rattle.std.specs.Prelude.{ℕ, cond, List, ltb, length}
-use Rattle.std.proofs.Math.Option.{Option, none, some}
+use Rattle.std.specs.Prelude.{Option, None, Some}
 use Rattle.packing.specs.declared.message.Event.{Event}
 use Rattle.packing.specs.Codec.{unpack_of}
 use Rattle.packing.specs.Message.{messages}
@@ -23,8 +23,8 @@ abbrev pub in_numbers : Explained → Reply
 in_numbers x = record { numbers = numbers_of x.why; room = x.room }
 
 abbrev pub explain_in : Option Event → ℕ → List ℕ → Option Series → Explained
-explain_in event place room none = unexplained 11 room
-explain_in event place room (some s) = explained_as s event place room
+explain_in event place room None = unexplained 11 room
+explain_in event place room (Some s) = explained_as s event place room
 
 -- ONE REPORT OF ONE MESSAGE, by what that unpacks to. 10: "report room under 31,920 bytes"; 11: the buffer holds no series, or an unsound one; then the
 -- handler's refusals, in its order, and last 12

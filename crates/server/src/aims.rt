@@ -1,7 +1,6 @@
 // The aims of one quote, asked for by number.
 ghost use Rattle.std.specs.Prelude.{◌≡◌};
-ghost use Rattle.prices.specs.declared.Answered.{Answered};
-ghost use Rattle.prices.specs.Request.{aims_answered};
+ghost use Rattle.prices.specs.Request.{Answered, aims_answered};
 
 use prices::request::request_aims;
 
@@ -20,8 +19,16 @@ pub extern "C" fn waxglimmer_aims(
     ensures { ◌≡◌ {A = Answered} (record { refusal = result; display = display.new; working = working.new })
         (aims_answered kind side limit away contra m) }
 {
-    let answer = request_aims(kind, side, limit, away, contra, m);
-    *display = answer.display;
-    *working = answer.working;
-    answer.refusal
+    match request_aims(kind, side, limit, away, contra, m) {
+        Ok(aim) => {
+            *display = aim.display;
+            *working = aim.working;
+            0
+        }
+        Err(why) => {
+            *display = 0;
+            *working = 0;
+            u32::from(why)
+        }
+    }
 }

@@ -2,11 +2,11 @@
 ghost use Rattle.std.specs.Prelude.{◌≡◌};
 ghost use Rattle.packing.specs.Codec.{unpack_of};
 ghost use Rattle.packing.specs.Setup.{setups};
-ghost use Rattle.packing.specs.Message.{message_at, event_in};
+ghost use Rattle.packing.specs.Message.{message_at};
 ghost use Rattle.server.specs.Serve.{SetUp, set_up, served, serve_as, serve};
 
 use handler::handle::handle_read;
-use packing::message::{Unpacked, unpack, unpack_at};
+use packing::message::{Event, unpack, unpack_at};
 use packing::room::ROOM;
 use series::open::open_series;
 use series_buffer::whole::{pack_series, unpack_series};
@@ -16,11 +16,10 @@ use series_buffer::whole::{pack_series, unpack_series};
 pub extern "C" fn waxglimmer_setup(setup: &[u8], state: &mut [u8]) -> u32
     ensures { ◌≡◌ {A = SetUp} (record { refusal = result; state = state.new }) (set_up state.old (unpack_of setups setup.now)) }
 {
-    let made = open_series(setup);
-    if made.refusal != 0 {
-        return 1;
-    }
-    let series = made.series;
+    let series = match open_series(setup) {
+        Ok(series) => series,
+        Err(refusal) => return u32::from(refusal),
+    };
     if pack_series(series, state) {
         return 0;
     }
@@ -29,23 +28,20 @@ pub extern "C" fn waxglimmer_setup(setup: &[u8], state: &mut [u8]) -> u32
 
 // Answers what a message unpacks to: the refusal's number with every lent byte as it was and count 0; or 0, the series afterwards in the buffer, and
 // its counted reports at the front of the room.
-fn serve_read(state: &mut [u8], read: Unpacked, room: &mut [u8], count: &mut usize) -> u32
-    ensures { served result count.new state.new room.new ≡ serve_as state.old (event_in read) room.old }
+fn serve_read(state: &mut [u8], read: Option<Event>, room: &mut [u8], count: &mut usize) -> u32
+    ensures { served result count.new state.new room.new ≡ serve_as state.old read room.old }
 {
     *count = 0;
     if room.len() < ROOM {
         return 10;
     }
-    let held = unpack_series(state);
-    if !held.ok {
+    let Some(series) = unpack_series(state) else {
         return 11;
-    }
-    let series = held.series;
-    let answer = handle_read(series, read, room);
-    let why = answer.refusal;
-    if why != 0 {
-        return why;
-    }
+    };
+    let answer = match handle_read(series, read, room) {
+        Ok(answer) => answer,
+        Err(why) => return u32::from(why),
+    };
     let after = answer.series;
     pack_series(after, state);
     *count = answer.count;

@@ -6,6 +6,8 @@ use mathlib.Core.Bool.{Bool, true, false, ◌&&◌}
 use mathlib.Core.List.{List, [], ◌∷◌}
 use Rattle.prices.specs.declared.Prices.{Prices}
 use Rattle.prices.specs.declared.Market.{Market}
+use Rattle.prices.specs.declared.Interest.{Interest}
+use Rattle.prices.specs.declared.Against.{Against}
 use Rattle.prices.specs.Step.{mpv, none_or_legal}
 use Rattle.prices.specs.Side.{away}
 use Rattle.prices.specs.Aims.{aims}
@@ -19,7 +21,7 @@ use Rattle.lists.proofs.Bools.{and_left}
 use Rattle.book.specs.declared.Entry.{Entry}
 use Rattle.book.specs.declared.Book.{Book}
 use Rattle.book.specs.declared.Front.{Front}
-use Rattle.book.specs.Entries.{display, priced}
+use Rattle.book.specs.Entries.{display, priced, interest_of}
 use Rattle.book.specs.Shape.{entries_of}
 use Rattle.book.specs.Look.{contra, front_of, contra_in, best_contra}
 use Rattle.book.proofs.LookLaws.{front-faces}
@@ -28,7 +30,7 @@ use Rattle.telling.specs.Tell.{repriced}
 use Rattle.soundness_theory.specs.SoundMarket.{sound_market}
 use Rattle.telling.specs.Stage.{Staged, alone}
 use Rattle.settling_theory.specs.Settle.{eased_prices, aims_in, trade_at, reprice, trade_or_move, stir_at}
-use Rattle.settling.specs.Turns.{entry_in, Judged, Watched, Turn, trade_step, StirTurn}
+use Rattle.settling.specs.Turns.{entry_in, against_of, Judged, Watched, Turn, trade_step, StirTurn}
 use Rattle.settling_theory.proofs.Shapes.{rest_prices, marketable_in}
 use Rattle.soundness_theory.proofs.MarketFacts.{sound-for}
 use Rattle.telling.proofs.StageLaws.{staged-step, roomy-step}
@@ -62,22 +64,22 @@ watched-bounds {k} {front} {b} w = record {
   };
 }
 
-module _ (k : Market) (front : Front) (b : Book) (known : front ≡ front_of (entries_of b)) (e : Entry) {a c kind : ℕ}
-    (ha : a ≡ away k e.sell) (hc : c ≡ contra_in front e.sell) (hk : kind ≡ e.kind) where
-  faces : c ≡ contra e.sell (entries_of b)
-  faces = hc ∙ front-faces front (entries_of b) known e.sell
+module _ (k : Market) (front : Front) (b : Book) (known : front ≡ front_of (entries_of b)) (e : Entry) {q : Interest} {f : Against}
+    (hq : q ≡ interest_of e) (hf : f ≡ against_of k front e.sell) where
+  faces : contra_in front e.sell ≡ contra e.sell (entries_of b)
+  faces = front-faces front (entries_of b) known e.sell
 
-  pub aims-are : (p : Prices) → p ≡ aims k.m kind e.sell e.limit a c → p ≡ aims_in k (entries_of b) e
-  aims-are p h = h ∙ rw (hk, ha, faces) refl
+  pub aims-are : (p : Prices) → p ≡ aims f.m q.kind q.sell q.limit f.away f.contra → p ≡ aims_in k (entries_of b) e
+  aims-are p h = h ∙ rw (hq, hf, faces) refl
 
-  pub market-is : (p : Prices) (t : Bool) → p ≡ aims k.m kind e.sell e.limit a c → t ≡ marketable kind e.sell c p
+  pub market-is : (p : Prices) (t : Bool) → p ≡ aims f.m q.kind q.sell q.limit f.away f.contra → t ≡ marketable q.kind q.sell f.contra p
       → t ≡ marketable_in k (entries_of b) e
-  market-is p t q r = r ∙ rw (hk, aims-are p q, faces) refl
+  market-is p t h r = r ∙ rw (aims-are p h, hq, hf, faces) refl
 
-  pub rest-entry : (p r : Prices) {d : ℕ} (e' : Entry) → p ≡ aims k.m kind e.sell e.limit a c → d ≡ display e
+  pub rest-entry : (p r : Prices) {d : ℕ} (e' : Entry) → p ≡ aims f.m q.kind q.sell q.limit f.away f.contra → d ≡ display e
       → r ≡ resting_prices e.sell d p → e' ≡ priced (record { display = r.display; working = r.working }) e
       → e' ≡ priced (rest_prices k (entries_of b) e) e
-  rest-entry p r e' h q s t = t ∙ ap (λ (z : Prices). priced z e) (s ∙ rw (q, aims-are p h) refl)
+  rest-entry p r e' h u s t = t ∙ ap (λ (z : Prices). priced z e) (s ∙ rw (u, aims-are p h) refl)
 
 module _ (k : Market) (l : List Entry) (i : ℕ) (e : Entry) where
   pub stir-trades : marketable_in k l e ≡ true → stir_at k l (found i e) ≡ trade_at l i e (best_contra e.sell false l)
@@ -88,12 +90,11 @@ module _ (k : Market) (l : List Entry) (i : ℕ) (e : Entry) where
 
 -- ---- the turn of an entry that stirs, by the code's figures for it ----
 
-module _ {k : Market} {front : Front} {b : Book} {i n : ℕ} {room : List ℕ} (turn : StirTurn k front b i room n) {a c kind : ℕ} (p : Prices) (t : Bool)
-    (ha : a ≡ away k (entry_in b i).sell) (hc : c ≡ contra_in front (entry_in b i).sell) (hk : kind ≡ (entry_in b i).kind)
-    (hp : p ≡ aims k.m kind (entry_in b i).sell (entry_in b i).limit a c)
-    (ht : t ≡ marketable kind (entry_in b i).sell c p) where
+module _ {k : Market} {front : Front} {b : Book} {i n : ℕ} {room : List ℕ} (turn : StirTurn k front b i room n)
+    {q : Interest} {f : Against} (p : Prices) (t : Bool) (hq : q ≡ interest_of (entry_in b i)) (hf : f ≡ against_of k front (entry_in b i).sell)
+    (hp : p ≡ aims f.m q.kind q.sell q.limit f.away f.contra) (ht : t ≡ marketable q.kind q.sell f.contra p) where
   judged : t ≡ marketable_in k (entries_of b) (entry_in b i)
-  judged = market-is k front b turn.watched.known (entry_in b i) ha hc hk p t hp ht
+  judged = market-is k front b turn.watched.known (entry_in b i) hq hf p t hp ht
 
   module _ (yes : t ≡ true) where
     trades : stir_at k (entries_of b) (found i (entry_in b i)) ≡ trade_step b i
@@ -112,7 +113,7 @@ module _ {k : Market} {front : Front} {b : Book} {i n : ℕ} {room : List ℕ} (
     rests = stir-rests k (entries_of b) i (entry_in b i) (sym judged ∙ no)
 
     becomes : e' ≡ priced (rest_prices k (entries_of b) (entry_in b i)) (entry_in b i)
-    becomes = rest-entry k front b turn.watched.known (entry_in b i) ha hc hk p r e' hp hd hr he
+    becomes = rest-entry k front b turn.watched.known (entry_in b i) hq hf p r e' hp hd hr he
 
     pub move-turn : Turn b i room n (repriced e' ∷ [])
     move-turn =

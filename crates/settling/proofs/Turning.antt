@@ -7,7 +7,7 @@ use Rattle.prices.specs.declared.Market.{Market}
 use Rattle.lists.specs.Choose.{found}
 use Rattle.book.specs.declared.Book.{Book}
 use Rattle.book.specs.declared.Front.{Front}
-use Rattle.book.specs.declared.Rank.TheVariants as rank
+use Rattle.std.specs.Prelude.{Some, None}
 use Rattle.book.specs.Shape.{entries_of}
 use Rattle.book.specs.Look.{rank_of, front_of, lowest}
 use Rattle.telling.specs.Stage.{Staged, alone}
@@ -29,11 +29,11 @@ unfolding eased
 ease-start h = loop-start h.well h.sound h.roomy
 
 module _ {k : Market} {b₀ b : Book} {room₀ room : List ℕ} {n₀ n : ℕ} (v : EaseLoop k b₀ room₀ n₀ b room n) where
-  pub ease-end : rank.Nowhere ≡ rank_of (lowest (easing k) (entries_of b)) → Staged (eased k (entries_of b₀)) room₀ n₀ b room n
+  pub ease-end : None ≡ rank_of (lowest (easing k) (entries_of b)) → Staged (eased k (entries_of b₀)) room₀ n₀ b room n
   unfolding eased
   ease-end e = loop-done v (ease-none-is k b v.well e)
 
-  module _ (i : ℕ) (e : rank.At i ≡ rank_of (lowest (easing k) (entries_of b))) where
+  module _ (i : ℕ) (e : Some i ≡ rank_of (lowest (easing k) (entries_of b))) where
     pub ease-asks : EaseTurn k b i room n
     ease-asks = record {
       place = (lowest-at (easing k) b v.well i e).place;
@@ -65,11 +65,11 @@ module _ {k : Market} {front : Front} {b₀ b : Book} {room₀ room : List ℕ} 
   pub stir-judges : Judgeable k front b
   stir-judges = record { well = v.well; judged = watched-bounds watched }
 
-  pub stir-end : rank.Nowhere ≡ rank_of (lowest (stirring_by k front) (entries_of b)) → Staged (stirred k (entries_of b₀)) room₀ n₀ b room n
+  pub stir-end : None ≡ rank_of (lowest (stirring_by k front) (entries_of b)) → Staged (stirred k (entries_of b₀)) room₀ n₀ b room n
   unfolding stirred
   stir-end e = loop-done v (stir-none-is k front b v.well known e)
 
-  module _ (i : ℕ) (e : rank.At i ≡ rank_of (lowest (stirring_by k front) (entries_of b))) where
+  module _ (i : ℕ) (e : Some i ≡ rank_of (lowest (stirring_by k front) (entries_of b))) where
     who : Lowest (stirring k (entries_of b)) b i
     who = stir-lowest k front b v.well known i e
 

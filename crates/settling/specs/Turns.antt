@@ -2,6 +2,7 @@
 -- No rule of document 01 stands here, only words for contracts.
 -- Assumes nothing.
 use Rattle.std.specs.Prelude.{ℕ, min, ◌≡◌, Bool, false, List, [], ◌∷◌, get_or}
+use Rattle.prices.specs.declared.Against.{Against}
 use Rattle.prices.specs.declared.Market.{Market}
 use Rattle.prices.specs.Side.{away}
 use Rattle.prices.specs.Aims.{Bounds}
@@ -24,6 +25,10 @@ abbrev pub entry_in : Book → ℕ → Entry
 entry_in b i = get_or b.entries i zero_entry
 
 -- ---- an entry judged by the book's front ----
+
+-- what a side faces
+abbrev pub against_of : Market → Front → Bool → Against
+against_of k front s = record { m = k.m; away = away k s; contra = contra_in front s }
 
 abbrev pub stirring_by : Market → Front → Entry → Bool
 stirring_by k front e = stirring_as k (contra_in front e.sell) e e.pricing

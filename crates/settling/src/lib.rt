@@ -6,7 +6,7 @@ pub mod stir;
 pub mod watch;
 
 ghost use Rattle.book.specs.Shape.{entries_of};
-ghost use Rattle.telling.specs.Stage.{Staged};
+ghost use Rattle.telling.specs.Lent.{Told, SameRoom};
 ghost use Rattle.settling_theory.specs.Settle.{settled};
 ghost use Rattle.settling.specs.Turns.{Settleable};
 
@@ -14,12 +14,14 @@ use crate::ease::ease;
 use crate::stir::stir;
 use book::Book;
 use prices::Market;
+use telling::room::Reports;
 
-// First easing, then trades and moves: the book that is left, with the reports behind the n that stand in the room.
-pub fn settle(b: Book, market: Market, room: &mut [u8], n: &mut usize) -> Book
-    requires { Settleable market b room.old n.old }
-    ensures { Staged (settled market (entries_of b)) room.old n.old result room.new n.new }
+// First easing, then trades and moves: the book that is left, with the reports behind those that stand in the room.
+pub fn settle(b: Book, market: Market, reports: &mut Reports) -> Book
+    requires { Settleable market b reports.old.room.now reports.old.count }
+    ensures told { Told (settled market (entries_of b)) reports.old result reports.new }
+    ensures same_room { SameRoom reports.old reports.new }
 {
-    let c = ease(b, market, room, n);
-    stir(c, market, room, n)
+    let c = ease(b, market, reports);
+    stir(c, market, reports)
 }

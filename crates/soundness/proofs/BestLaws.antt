@@ -5,8 +5,8 @@ use mathlib.Core.Path.{◌≡◌, refl, sym, ap, ◌∙◌}
 use mathlib.Core.Bool.{Bool, true, false, cond, beq}
 use mathlib.Core.List.{List, [], ◌∷◌, ◌++◌}
 use native.Mathlib.Omega.{arith}
-use borrow.Author.Tests.{ltb-true, ltb-false, lt-ltb, le-ltb, eqb-true, eqb-false, ne_eqb}
-use lib.Dec.{eqb, ltb}
+use borrow.Author.Tests.{eqb-true, eqb-false, ne_eqb}
+use lib.Dec.{eqb}
 use Rattle.prices.specs.Side.{nearer, meek}
 use Rattle.prices.specs.Step.{top_price}
 use Rattle.lists.specs.Choose.{scan}
@@ -14,7 +14,7 @@ use Rattle.book.specs.declared.Entry.{Entry}
 use Rattle.book.specs.Look.{nearest, facing}
 use Rattle.book.proofs.OfferLaws.{best-alone, best-nearer, best-one}
 use Rattle.book.proofs.LookLaws.{nearest-tells, nearest-offered}
-use Rattle.soundness.specs.Summary.{higher_price, lower_price, offer_key, offer_of, buys_at, sells_at, no_offer}
+use Rattle.soundness.specs.Summary.{offer_key, offer_of, buys_at, sells_at, no_offer}
 use Rattle.soundness.proofs.PairLaws.{scan-snoc}
 
 -- one more entry, as the price that a side faces has it
@@ -24,24 +24,21 @@ nearest-more price s l e = scan-snoc (λ (q : ℕ) (x : Entry). facing price s q
 
 -- ---- the highest buy: a maximum, as 0 is below all prices ----
 
-higher-nearer : (p q : ℕ) → higher_price p q ≡ nearer true p q
+higher-nearer : (p q : ℕ) → max p q ≡ nearer true p q
 unfolding nearer meek
-higher-nearer p q = go (ltb p q) refl (eqb p 0) refl (eqb q 0) refl
+higher-nearer p q = go (eqb p 0) refl (eqb q 0) refl
   where
-    go : (a : Bool) → ltb p q ≡ a → (b : Bool) → eqb p 0 ≡ b → (c : Bool) → eqb q 0 ≡ c → cond a q p ≡ cond b q (cond c p (max p q))
-    go true h true f c g = refl
-    go true h false f true g = absurd (omega (arith, ltb-true p q h, eqb-true q 0 g))
-    go true h false f false g = omega (arith, ltb-true p q h)
-    go false h true f c g = omega (arith, ltb-false p q h, eqb-true p 0 f)
-    go false h false f true g = refl
-    go false h false f false g = omega (arith, ltb-false p q h)
+    go : (b : Bool) → eqb p 0 ≡ b → (c : Bool) → eqb q 0 ≡ c → max p q ≡ cond b q (cond c p (max p q))
+    go true f c g = omega (arith, eqb-true p 0 f)
+    go false f true g = omega (arith, eqb-true q 0 g)
+    go false f false g = refl
 
 pub highest-more : (price : Entry → ℕ) (l : List Entry) (e : Entry) (p : ℕ) → p ≡ nearest price true 0 l
-    → higher_price p (buys_at e.sell (price e)) ≡ nearest price true 0 (l ++ (e ∷ []))
+    → max p (buys_at e.sell (price e)) ≡ nearest price true 0 (l ++ (e ∷ []))
 highest-more price l e p h = side e.sell ∙ ap (λ (q : ℕ). facing price true q e) h ∙ sym (nearest-more price true l e)
   where
-    side : (s : Bool) → higher_price p (buys_at s (price e)) ≡ cond (beq s false) (nearer true p (price e)) p
-    side true = rw (le-ltb p 0 (omega arith))
+    side : (s : Bool) → max p (buys_at s (price e)) ≡ cond (beq s false) (nearer true p (price e)) p
+    side true = omega arith
     side false = higher-nearer p (price e)
 
 -- ---- the lowest sell: a minimum, once none is held as a number above all prices ----
@@ -50,29 +47,16 @@ pub held-some : (p : ℕ) → 1 ≤ p → offer_key p ≡ p
 unfolding offer_key
 held-some p h = rw (ne_eqb p 0 (λ e. omega arith))
 
-lower-nearer : (p q : ℕ) → p ≤ top_price → q ≤ top_price → lower_price (offer_key p) (offer_key q) ≡ offer_key (nearer false p q)
+lower-nearer : (p q : ℕ) → p ≤ top_price → q ≤ top_price → min (offer_key p) (offer_key q) ≡ offer_key (nearer false p q)
 unfolding offer_key nearer meek
 lower-nearer p q a b = go (eqb p 0) refl (eqb q 0) refl
   where
-    both : (c : Bool) → ltb p q ≡ c → cond c p q ≡ min p q
-    both true h = omega (arith, ltb-true p q h)
-    both false h = omega (arith, ltb-false p q h)
-
     go : (x : Bool) → eqb p 0 ≡ x → (y : Bool) → eqb q 0 ≡ y
-        → lower_price (cond x no_offer p) (cond y no_offer q) ≡ cond (eqb (cond x q (cond y p (min p q))) 0) no_offer (cond x q (cond y p (min p q)))
+        → min (cond x no_offer p) (cond y no_offer q) ≡ cond (eqb (cond x q (cond y p (min p q))) 0) no_offer (cond x q (cond y p (min p q)))
     go true f true g = rw g
-    go true f false g = rw (g, le-ltb no_offer q (omega arith))
-    go false f true g = rw (f, lt-ltb p no_offer (omega arith))
-    go false f false g =
-        let some : eqb (min p q) 0 ≡ false = ne_eqb (min p q) 0 (λ e. none e (eqb-false p 0 f) (eqb-false q 0 g)) in
-        rw some (both (ltb p q) refl)
-      where
-        none : min p q ≡ 0 → (p ≡ 0 → ⊥) → (q ≡ 0 → ⊥) → ⊥
-        none e u v = one (ltb p q) refl
-          where
-            one : (c : Bool) → ltb p q ≡ c → ⊥
-            one true h = u (omega (arith, ltb-true p q h))
-            one false h = v (omega (arith, ltb-false p q h))
+    go true f false g = rw g (omega arith)
+    go false f true g = rw f (omega arith)
+    go false f false g = rw (ne_eqb (min p q) 0 (λ e. omega (arith, eqb-false p 0 f, eqb-false q 0 g, e)))
 
 lower_high : (p q : ℕ) → p ≤ top_price → q ≤ top_price → nearer false p q ≤ top_price
 unfolding nearer meek
@@ -93,7 +77,7 @@ unfolding nearest scan offer_key
 lowest-none price = record { holds = refl; high = omega arith }
 
 pub lowest-more : (price : Entry → ℕ) (l : List Entry) (e : Entry) (p : ℕ) → Lowest price l p → price e ≤ top_price
-    → Lowest price (l ++ (e ∷ [])) (lower_price p (sells_at e.sell (offer_key (price e))))
+    → Lowest price (l ++ (e ∷ [])) (min p (sells_at e.sell (offer_key (price e))))
 unfolding offer_key
 lowest-more price l e p h high = rw h.holds (record {
   holds = side e.sell ∙ ap offer_key (sym (nearest-more price false l e));
@@ -103,11 +87,11 @@ lowest-more price l e p h high = rw h.holds (record {
     q : ℕ
     q = nearest price false 0 l
 
-    stays : (b : Bool) → eqb q 0 ≡ b → lower_price (cond b no_offer q) no_offer ≡ cond b no_offer q
+    stays : (b : Bool) → eqb q 0 ≡ b → min (cond b no_offer q) no_offer ≡ cond b no_offer q
     stays true f = refl
-    stays false f = rw (lt-ltb q no_offer (omega (arith, h.high)))
+    stays false f = omega (arith, h.high)
 
-    side : (s : Bool) → lower_price (offer_key q) (sells_at s (offer_key (price e))) ≡ offer_key (cond (beq s true) (nearer false q (price e)) q)
+    side : (s : Bool) → min (offer_key q) (sells_at s (offer_key (price e))) ≡ offer_key (cond (beq s true) (nearer false q (price e)) q)
     side true = lower-nearer q (price e) h.high high
     side false = stays (eqb q 0) refl
 

@@ -7,6 +7,8 @@ use mathlib.Core.List.{List, [], ◌∷◌}
 use borrow.Author.Tests.{eqb-true, not-true, leb-true, le-leb, lt-leb}
 use lib.Dec.{eqb, leb}
 use lib.ListN.{length, drop, replicate, length-drop}
+use Rattle.std.specs.Prelude.{Option, None}
+use Rattle.std.proofs.lemmas.Option.{none-some}
 use Rattle.prices.specs.Step.{mpv}
 use Rattle.lists.specs.Tests.{all}
 use Rattle.lists.proofs.Bools.{clash, and_left, and_right}
@@ -17,7 +19,7 @@ use Rattle.book.specs.declared.Pricing.TheVariants.{Fixed, Dark, Sliding}
 use Rattle.book.specs.Shape.{zero_entry, entries_of, WellFormed}
 use Rattle.soundness_theory.specs.Sound.{fixed_pricing, unused_entry, sound_entries, sound_book}
 use Rattle.soundness.specs.declared.Check.{Check}
-use Rattle.soundness.specs.Summary.{unsound, Passed, Checked}
+use Rattle.soundness.specs.Summary.{Passed, Checked}
 
 -- ---- an unused place holds the zero entry ----
 
@@ -97,21 +99,15 @@ module _ (m given : ℕ) (b : Book) where
       never true false z = refl
       never false y z = refl
 
-module _ {m given : ℕ} {b : Book} {r : Check} where
-  pub turned_down : (mpv m && sound_book m given b) ≡ false → r ≡ unsound → Checked m given b r
-  turned_down h e = record {
-    verdict = ap (λ (k : Check). k.ok) e ∙ sym h;
-    well = λ t. clash t (ap (λ (k : Check). k.ok) e);
-    summary = λ t. clash t (ap (λ (k : Check). k.ok) e);
-    nothing = λ _. e;
-  }
+module _ {m given : ℕ} {b : Book} where
+  pub turned_down : (mpv m && sound_book m given b) ≡ false → Checked m given b None
+  turned_down h = record { verdict = sym h; well = λ t. clash t refl; summary = λ check t. absurd (none-some check t) }
 
-  pub judged : mpv m ≡ true → b.count ≤ 64 → length b.entries ≡ 64 → all unused_entry (drop b.count b.entries) ≡ true
+  pub judged : {r : Option Check} → mpv m ≡ true → b.count ≤ 64 → length b.entries ≡ 64 → all unused_entry (drop b.count b.entries) ≡ true
       → Passed m given (entries_of b) r → Checked m given b r
   unfolding sound_book
   judged v few places unused p = record {
     verdict = p.verdict ∙ sym (rw (v, le-leb b.count 64 few, unused) (and-true (sound_entries m given (entries_of b))));
     well = λ _. clean-well few places unused;
     summary = p.summary;
-    nothing = p.nothing;
   }

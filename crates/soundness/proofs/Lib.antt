@@ -8,3 +8,4 @@ pub mod BookLaws
 pub mod DecideLaws
 pub mod SoundBookDecides
 pub mod SummaryLaws
+pub mod StdLaws

@@ -1,19 +1,20 @@
 -- THE PASS over the entries that rest: what is kept of those read so far decides each clause for the next, and at the end the whole.
 -- Assumes nothing.
-use Prim.Native.Nat.{ℕ, suc, ◌+◌, ◌≤◌, ◌<◌}
+use Prim.Native.Nat.{ℕ, suc, ◌+◌, ◌≤◌, ◌<◌, min}
 use mathlib.Core.Path.{◌≡◌, refl, sym, subst, ap, ◌∙◌}
 use mathlib.Core.Bool.{Bool, true, false, cond, not, ◌&&◌, ◌||◌}
 use mathlib.Core.List.{List, [], ◌∷◌, ◌++◌, map}
 use native.Mathlib.Numerals.{add-one}
 use native.Mathlib.Omega.{arith}
-use borrow.Author.Tests.{ltb-true, ltb-false}
 use lib.Dec.{eqb, ltb}
 use lib.ListN.{length, take, drop, get_or, set, replicate, length-set}
 use lib.Seq.{length-take-le, take-take, get_or-take, take-suc, take-suc-set, split_at, append_snoc}
+use Rattle.std.specs.Prelude.{None, Some}
+use Rattle.std.proofs.lemmas.Option.{none-some, same_Some}
 use Rattle.prices.specs.Step.{mpv}
 use Rattle.lists.specs.Tests.{All, all, any, pairs}
 use Rattle.lists.specs.Choose.{scan}
-use Rattle.lists.proofs.Bools.{clash, and_left, and_right, and_both}
+use Rattle.lists.proofs.Bools.{and_left, and_right, and_both}
 use Rattle.lists.proofs.PlaceLaws.{length-snoc}
 use Rattle.lists.proofs.TestLaws.{all_true, all_map, all_snoc}
 use Rattle.book.specs.declared.Entry.{Entry}
@@ -23,7 +24,7 @@ use Rattle.book.specs.Look.{contra, national, nearest, working}
 use Rattle.soundness_theory.specs.Sound.{sound_entry, distinct, one_quote, uncrossed, sound_pair, sound_entries}
 use Rattle.soundness.specs.declared.Check.{Check}
 use Rattle.soundness.specs.declared.Best.{Best}
-use Rattle.soundness.specs.Summary.{seat_of, Seated, lower_price, offer_of, sells_at, better, best_apart, unsound, finding, Passed, no_offer}
+use Rattle.soundness.specs.Summary.{seat_of, Seated, offer_of, sells_at, better, best_apart, finding, Summary, Passed, no_offer}
 use Rattle.soundness.proofs.PairLaws.{contrary, pairs-and, pairs-snoc-is, pairs-front, all-snoc-is, all-front, any-snoc-is, map_snoc, new-decided}
 use Rattle.soundness.proofs.SpreadLaws.{spread-decides}
 use Rattle.soundness.proofs.ClauseLaws.{clauses-of, works, works-high, shows-high}
@@ -93,13 +94,6 @@ pub record Gathered (m given : ℕ) (l : List Entry) (best : Best) (numbers : Li
   pub places : length numbers ≡ 64
   pub seated : Seated l seats
 
-higher-top : (top n : ℕ) → (top ≤ cond (ltb top n) n top) × (n ≤ cond (ltb top n) n top)
-higher-top top n = go (ltb top n) refl
-  where
-    go : (b : Bool) → ltb top n ≡ b → (top ≤ cond b n top) × (n ≤ cond b n top)
-    go true h = (omega (arith, ltb-true top n h), omega arith)
-    go false h = (omega arith, omega (arith, ltb-false top n h))
-
 module _ (m given : ℕ) (l : List Entry) (best : Best) (numbers : List ℕ) (seats : List Bool) (g : Gathered m given l best numbers seats) (e : Entry) where
   number-decides : all (λ (y : Entry). distinct y e) l ≡ (ltb best.top e.number || not (any (eqb e.number) (take (length l) numbers)))
   number-decides = new-decided number best.top l e g.top ∙ rw g.column
@@ -109,17 +103,16 @@ module _ (m given : ℕ) (l : List Entry) (best : Best) (numbers : List ℕ) (se
       → Gathered m given (l ++ (e ∷ [])) (better best e) (set numbers (length l) e.number) (set seats (seat_of e) (not (eqb (seat_of e) 0)))
   gathered-more v sound new vacant few =
       let c = clauses-of m given e sound in
-      let high = higher-top best.top e.number in
       let short : length l < length numbers = omega (arith, g.places) in
       record {
         entries = all-snoc-is (sound_entry m given) l e ∙ rw (g.entries, sound);
         different = pairs-snoc-is distinct l e ∙ and_both (pairs distinct l) (all (λ (y : Entry). distinct y e) l) g.different (number-decides ∙ new);
         quotes = pairs-snoc-is one_quote l e
             ∙ and_both (pairs one_quote l) (all (λ (y : Entry). one_quote y e) l) g.quotes (seat-decides l e seats c g.seated ∙ ap not vacant);
-        top = all_snoc (λ (x : Entry). x.number ≤ (better best e).top) l e (all_map (λ x h. omega (arith, high.0)) l g.top) high.1;
+        top = all_snoc (λ (x : Entry). x.number ≤ (better best e).top) l e (all_map (λ x h. omega (arith, h)) l g.top) (omega arith);
         bid = highest-more working l e best.bid g.bid;
         offer =
-            subst (λ (q : ℕ). Lowest working (l ++ (e ∷ [])) (lower_price best.offer (sells_at e.sell q))) (held-some e.working (works m given e c v))
+            subst (λ (q : ℕ). Lowest working (l ++ (e ∷ [])) (min best.offer (sells_at e.sell q))) (held-some e.working (works m given e c v))
             (lowest-more working l e best.offer g.offer (works-high m given e c));
         shownbid = highest-more display l e best.shownbid g.shownbid;
         shownoffer = lowest-more display l e best.shownoffer g.shownoffer (shows-high m given e c);
@@ -130,18 +123,14 @@ module _ (m given : ℕ) (l : List Entry) (best : Best) (numbers : List ℕ) (se
         seated = seated-more l e seats c g.seated;
       }
 
--- a list that is not sound, and the answer that says so
-pub refused : {m given : ℕ} {l : List Entry} {r : Check} → sound_entries m given l ≡ false → r ≡ unsound → Passed m given l r
-refused h e = record {
-  verdict = ap (λ (k : Check). k.ok) e ∙ sym h;
-  summary = λ t. clash t (ap (λ (k : Check). k.ok) e);
-  nothing = λ _. e;
-}
+-- a list that is not sound is answered by none
+pub refused : {m given : ℕ} {l : List Entry} → sound_entries m given l ≡ false → Passed m given l None
+refused h = record { verdict = sym h; summary = λ check t. absurd (none-some check t) }
 
 -- every entry has been read: the best prices decide
 pub all_read : {m given : ℕ} {l : List Entry} {best : Best} {numbers : List ℕ} {seats : List Bool} → mpv m ≡ true
-    → Gathered m given l best numbers seats → (r : Check) → r ≡ finding best seats → Passed m given l r
-all_read {m} {given} {l} {best} {numbers} {seats} v g r e = go (best_apart best.bid (offer_of best.offer)) refl e
+    → Gathered m given l best numbers seats → Passed m given l (finding best seats)
+all_read {m} {given} {l} {best} {numbers} {seats} v g = go (best_apart best.bid (offer_of best.offer)) refl
   where
     decided : sound_entries m given l ≡ best_apart best.bid (offer_of best.offer)
     decided =
@@ -151,7 +140,6 @@ all_read {m} {given} {l} {best} {numbers} {seats} v g r e = go (best_apart best.
 
     answer : Check
     answer = record {
-      ok = true;
       bid = best.bid;
       offer = offer_of best.offer;
       shownbid = best.shownbid;
@@ -160,20 +148,19 @@ all_read {m} {given} {l} {best} {numbers} {seats} v g r e = go (best_apart best.
       seats = seats;
     }
 
-    go : (b : Bool) → best_apart best.bid (offer_of best.offer) ≡ b → r ≡ cond b answer unsound → Passed m given l r
-    go false q h = refused (decided ∙ q) h
-    go true q h = rw h (record {
-      verdict = sym (decided ∙ q);
-      summary = λ _. record {
-        bid = g.bid;
-        offer = lowest-told working l best.offer g.offer;
-        shownbid = g.shownbid;
-        shownoffer = lowest-told display l best.shownoffer g.shownoffer;
-        quoted = g.quoted;
-        seats = g.seated;
-      };
-      nothing = λ t. clash refl t;
-    })
+    seen : Summary l answer
+    seen = record {
+      bid = g.bid;
+      offer = lowest-told working l best.offer g.offer;
+      shownbid = g.shownbid;
+      shownoffer = lowest-told display l best.shownoffer g.shownoffer;
+      quoted = g.quoted;
+      seats = g.seated;
+    }
+
+    go : (b : Bool) → best_apart best.bid (offer_of best.offer) ≡ b → Passed m given l (cond b (Some answer) None)
+    go false q = refused (decided ∙ q)
+    go true q = record { verdict = sym (decided ∙ q); summary = λ check t. subst (Summary l) (same_Some _ _ t) seen }
 
 -- ---- the loop: the first i of n entries have been read ----
 
@@ -250,5 +237,5 @@ module _ {m given : ℕ} {es : List Entry} {n : ℕ} {best : Best} {numbers : Li
         record { within = omega arith; so_far = rw grown (rw read at z) }
 
 pub read_done : {m given : ℕ} {es : List Entry} {n : ℕ} {best : Best} {numbers : List ℕ} {seats : List Bool} {i : ℕ} → mpv m ≡ true
-    → Reading m given es n best numbers seats i → n ≤ i → (r : Check) → r ≡ finding best seats → Passed m given (take n es) r
-read_done {n = n} {i = i} v g h r e = let same : i ≡ n = omega (arith, g.within) in all_read v (rw same at g.so_far) r e
+    → Reading m given es n best numbers seats i → n ≤ i → Passed m given (take n es) (finding best seats)
+read_done {n = n} {i = i} v g h = let same : i ≡ n = omega (arith, g.within) in all_read v (rw same at g.so_far)

@@ -10,7 +10,9 @@ use lib.Dec.{eqb, leb}
 use lib.ListN.{get_or}
 use lib.Seq.{ext_get_or}
 use Rattle.prices.specs.Side.{nearer}
+use Rattle.std.specs.Prelude.{Option, None, Some, is_some}
 use Rattle.lists.specs.Tests.{any}
+use Rattle.lists.proofs.Bools.{clash}
 use Rattle.lists.specs.Choose.{scan, nowhere, consider, choosing, first, never}
 use Rattle.lists.proofs.ChooseLaws.{found-stays}
 use Rattle.book.specs.declared.Entry.{Entry}
@@ -18,7 +20,7 @@ use Rattle.book.specs.declared.Book.{Book}
 use Rattle.book.specs.Entries.{quote_of, display}
 use Rattle.book.specs.Look.{quote_in, contra, national}
 use Rattle.soundness.specs.declared.Check.{Check}
-use Rattle.soundness.specs.Summary.{seat, Seated, is_found, faced, faced_shown, unsound, Summary, Passed, Checked}
+use Rattle.soundness.specs.Summary.{seat, Seated, is_found, faced, faced_shown, Summary, Passed, Checked}
 use Rattle.soundness.proofs.BestLaws.{nearest-away}
 
 -- ---- a maker has a quote just if a search finds it ----
@@ -55,10 +57,9 @@ module _ {l : List Entry} {r : Check} (h : Summary l r) where
 
 -- ---- there is only one answer ----
 
-same_check : (x y : Check) → x.ok ≡ y.ok → x.bid ≡ y.bid → x.offer ≡ y.offer → x.shownbid ≡ y.shownbid → x.shownoffer ≡ y.shownoffer
-    → x.quoted ≡ y.quoted → x.seats ≡ y.seats → x ≡ y
-same_check x y a b c d e q f =
-    λ i. record { ok = a i; bid = b i; offer = c i; shownbid = d i; shownoffer = e i; quoted = q i; seats = f i }
+same_check : (x y : Check) → x.bid ≡ y.bid → x.offer ≡ y.offer → x.shownbid ≡ y.shownbid → x.shownoffer ≡ y.shownoffer → x.quoted ≡ y.quoted
+    → x.seats ≡ y.seats → x ≡ y
+same_check x y b c d e q f = λ i. record { bid = b i; offer = c i; shownbid = d i; shownoffer = e i; quoted = q i; seats = f i }
 
 seats-one : (l : List Entry) (p q : List Bool) → Seated l p → Seated l q → p ≡ q
 seats-one l p q a b = ext_get_or false p q (a.places ∙ sym b.places) (λ k h. at k (omega (arith, a.places)))
@@ -83,27 +84,25 @@ seats-one l p q a b = ext_get_or false p q (a.places ∙ sym b.places) (λ k h. 
             let there : k ≡ k - 16 + 16 = omega arith in
             rw there (a.makers (k - 16) true some high ∙ sym (b.makers (k - 16) true some high))
 
-summary-one : {l : List Entry} {x y : Check} → x.ok ≡ y.ok → Summary l x → Summary l y → x ≡ y
-summary-one {l} {x} {y} same_ok p q =
-    same_check x y same_ok (p.bid ∙ sym q.bid) (p.offer ∙ sym q.offer) (p.shownbid ∙ sym q.shownbid) (p.shownoffer ∙ sym q.shownoffer)
-    (p.quoted ∙ sym q.quoted)
+summary-one : {l : List Entry} {x y : Check} → Summary l x → Summary l y → x ≡ y
+summary-one {l} {x} {y} p q =
+    same_check x y (p.bid ∙ sym q.bid) (p.offer ∙ sym q.offer) (p.shownbid ∙ sym q.shownbid) (p.shownoffer ∙ sym q.shownoffer) (p.quoted ∙ sym q.quoted)
     (seats-one l x.seats y.seats p.seats q.seats)
 
--- two answers with one verdict are the same, where a sound verdict fixes them, and any other is always the same answer
-pub one_answer : {x y : Check} → x.ok ≡ y.ok → (x.ok ≡ true → y.ok ≡ true → x ≡ y) → (x.ok ≡ false → x ≡ unsound) → (y.ok ≡ false → y ≡ unsound) → x ≡ y
-one_answer {x} {y} same_ok sound nothing nothing' = go x.ok refl
-  where
-    go : (v : Bool) → x.ok ≡ v → x ≡ y
-    go true e = sound e (sym same_ok ∙ e)
-    go false e = nothing e ∙ sym (nothing' (sym same_ok ∙ e))
+-- two answers with one verdict are the same, where what a sound verdict comes with is fixed
+pub one_answer : {x y : Option Check} → is_some x ≡ is_some y → ((a b : Check) → x ≡ Some a → y ≡ Some b → a ≡ b) → x ≡ y
+one_answer {x = None} {y = None} same_verdict same = refl
+one_answer {x = None} {y = Some b} same_verdict same = clash same_verdict refl
+one_answer {x = Some a} {y = None} same_verdict same = clash refl same_verdict
+one_answer {x = Some a} {y = Some b} same_verdict same = ap Some (same a b refl refl)
+
+pub no_answer : {x : Option Check} → is_some x ≡ false → x ≡ None
+no_answer {x = None} h = refl
+no_answer {x = Some a} h = clash refl h
 
 -- THEOREM. THE PROMISE OF `check_book` FIXES ITS ANSWER, and so does that of `check_resting`: "Two outcomes allowed by one promise are proved equal"
-pub checked-one : {m given : ℕ} {b : Book} {x y : Check} → Checked m given b x → Checked m given b y → x ≡ y
-checked-one c d =
-    let same_ok = c.verdict ∙ sym d.verdict in
-    one_answer same_ok (λ h k. summary-one same_ok (c.summary h) (d.summary k)) c.nothing d.nothing
+pub checked-one : {m given : ℕ} {b : Book} {x y : Option Check} → Checked m given b x → Checked m given b y → x ≡ y
+checked-one c d = one_answer (c.verdict ∙ sym d.verdict) (λ a b h k. summary-one (c.summary a h) (d.summary b k))
 
-pub passed-one : {m given : ℕ} {l : List Entry} {x y : Check} → Passed m given l x → Passed m given l y → x ≡ y
-passed-one c d =
-    let same_ok = c.verdict ∙ sym d.verdict in
-    one_answer same_ok (λ h k. summary-one same_ok (c.summary h) (d.summary k)) c.nothing d.nothing
+pub passed-one : {m given : ℕ} {l : List Entry} {x y : Option Check} → Passed m given l x → Passed m given l y → x ≡ y
+passed-one c d = one_answer (c.verdict ∙ sym d.verdict) (λ a b h k. summary-one (c.summary a h) (d.summary b k))

@@ -2,7 +2,7 @@
 -- for them where document 01 speaks of C, of NBO and NBB, and of the quote that another replaces.
 -- No rule of document 01 stands here, only words for contracts.
 -- Assumes nothing.
-use Rattle.std.specs.Prelude.{ℕ, ◌+◌, ◌≤◌, ◌≡◌, Bool, true, false, cond, ◌&&◌, ◌||◌, List, eqb, ltb, length, get_or, replicate}
+use Rattle.std.specs.Prelude.{ℕ, ◌+◌, ◌≤◌, ◌≡◌, min, max, Bool, true, false, cond, ◌&&◌, ◌||◌, List, eqb, ltb, length, get_or, Option, None, Some, is_some}
 use Rattle.prices.specs.Step.{mpv}
 use Rattle.lists.specs.Tests.{any}
 use Rattle.lists.specs.Choose.{Found, nowhere, found}
@@ -38,12 +38,6 @@ is_found (found i x) = true
 
 -- ---- prices: the best of each side, 0 for none ----
 
-abbrev pub higher_price : ℕ → ℕ → ℕ
-higher_price p q = cond (ltb p q) q p
-
-abbrev pub lower_price : ℕ → ℕ → ℕ
-lower_price p q = cond (ltb p q) p q
-
 -- while the entries are read, a number above all prices stands for no offer, so that the lowest is a minimum; and back
 abbrev pub no_offer : ℕ
 no_offer = 1000000
@@ -64,11 +58,11 @@ sells_at s p = cond s p no_offer
 -- one more entry: the highest number, the best prices, the displays without the dark ones, and whether a quote was met
 abbrev pub better : Best → Entry → Best
 better best e = record {
-  top = higher_price best.top e.number;
-  bid = higher_price best.bid (buys_at e.sell e.working);
-  offer = lower_price best.offer (sells_at e.sell e.working);
-  shownbid = higher_price best.shownbid (buys_at e.sell (display e));
-  shownoffer = lower_price best.shownoffer (sells_at e.sell (offer_key (display e)));
+  top = max best.top e.number;
+  bid = max best.bid (buys_at e.sell e.working);
+  offer = min best.offer (sells_at e.sell e.working);
+  shownbid = max best.shownbid (buys_at e.sell (display e));
+  shownoffer = min best.shownoffer (sells_at e.sell (offer_key (display e)));
   quoted = best.quoted || quote e;
 }
 
@@ -97,20 +91,19 @@ faced_shown r false = r.shownoffer
 faced_shown r true = r.shownbid
 
 -- of any other: nothing
-abbrev pub unsound : Check
-unsound = record { ok = false; bid = 0; offer = 0; shownbid = 0; shownoffer = 0; quoted = false; seats = replicate 33 false }
+abbrev pub unsound : Option Check
+unsound = None
 
 -- what the pass over the entries finds once all have been read
-abbrev pub finding : Best → List Bool → Check
-finding best seats = cond (best_apart best.bid (offer_of best.offer)) (record {
-  ok = true;
+abbrev pub finding : Best → List Bool → Option Check
+finding best seats = cond (best_apart best.bid (offer_of best.offer)) (Some (record {
   bid = best.bid;
   offer = offer_of best.offer;
   shownbid = best.shownbid;
   shownoffer = offer_of best.shownoffer;
   quoted = best.quoted;
   seats = seats;
-}) unsound
+})) unsound
 
 -- what it asks: an MPV, and a book with no more entries than places
 pub record Few (m : ℕ) (b : Book) : Type 0 where
@@ -119,14 +112,12 @@ pub record Few (m : ℕ) (b : Book) : Type 0 where
   pub places : length b.entries ≡ 64
 
 -- of entries, whatever stands behind them
-pub record Passed (m given : ℕ) (l : List Entry) (r : Check) : Type 0 where
-  pub verdict : r.ok ≡ sound_entries m given l
-  pub summary : r.ok ≡ true → Summary l r
-  pub nothing : r.ok ≡ false → r ≡ unsound
+pub record Passed (m given : ℕ) (l : List Entry) (r : Option Check) : Type 0 where
+  pub verdict : is_some r ≡ sound_entries m given l
+  pub summary : (check : Check) → r ≡ Some check → Summary l check
 
 -- of a whole book, and a series with this MPV
-pub record Checked (m given : ℕ) (b : Book) (r : Check) : Type 0 where
-  pub verdict : r.ok ≡ (mpv m && sound_book m given b)
-  pub well : r.ok ≡ true → WellFormed b
-  pub summary : r.ok ≡ true → Summary (entries_of b) r
-  pub nothing : r.ok ≡ false → r ≡ unsound
+pub record Checked (m given : ℕ) (b : Book) (r : Option Check) : Type 0 where
+  pub verdict : is_some r ≡ (mpv m && sound_book m given b)
+  pub well : is_some r ≡ true → WellFormed b
+  pub summary : (check : Check) → r ≡ Some check → Summary (entries_of b) check

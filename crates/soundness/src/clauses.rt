@@ -1,9 +1,9 @@
 // The clauses on a single entry, in document 01's order. Most entries pass them all, so each failure returns at once.
 ghost use Rattle.std.specs.Prelude.{◌≡◌, true};
 ghost use Rattle.prices.specs.Step.{mpv};
-ghost use Rattle.soundness_theory.specs.Sound.{numbered, kinded, partied, sized, priced_well, sound_entry, fixed_pricing, unused_entry};
+ghost use Rattle.soundness_theory.specs.Sound.{numbered, kinded, partied, sized, priced_well, sound_entry, unused_entry};
 
-use book::entries::{is_quote, kind_of};
+use book::entries::{is_quote, kind_of, zero_entry};
 use book::{Entry, Pricing};
 use kinds::{is_dark, is_entering, is_sliding};
 use prices::rest::is_slide;
@@ -67,24 +67,9 @@ pub fn is_sound_entry(m: u32, given: u32, e: Entry) -> bool
     is_priced_well(m, e)
 }
 
-fn is_fixed(e: Entry) -> bool
-    ensures { result ≡ fixed_pricing e.pricing }
-{
-    let p = e.pricing;
-    match p {
-        Pricing::Fixed => true,
-        Pricing::Dark => false,
-        Pricing::Sliding(_) => false,
-    }
-}
-
 // Whether it is what stands in an unused place.
 pub fn is_unused(e: Entry) -> bool
     ensures { result ≡ unused_entry e }
 {
-    is_fixed(e)
-        & ((e.number == 0)
-            & ((e.party == 0)
-                & ((e.kind == 0)
-                    & (!e.sell & ((e.limit == 0) & ((e.quantity == 0) & (e.working == 0)))))))
+    e == zero_entry()
 }

@@ -1,8 +1,8 @@
 // What is kept of the entries read so far: the best prices, the highest number, and who has a quote.
 ghost use Rattle.std.specs.Prelude.{◌≡◌, ◌≤◌, false, not, ◌||◌, length, take, get_or, eqb, ltb};
 ghost use Rattle.lists.specs.Tests.{any};
-ghost use Rattle.soundness.specs.Summary.{seat, seat_of, higher_price, lower_price, buys_at, sells_at, offer_key};
-ghost use Rattle.soundness.specs.Summary.{offer_of, better, best_apart, unsound, faced, faced_shown};
+ghost use Rattle.soundness.specs.Summary.{seat, seat_of, buys_at, sells_at, offer_key};
+ghost use Rattle.soundness.specs.Summary.{offer_of, better, best_apart, faced, faced_shown};
 
 use crate::{Best, Check};
 use book::Entry;
@@ -10,33 +10,6 @@ use book::entries::{display_of, is_quote};
 
 // Above all prices: while the entries are read, it stands for no offer.
 pub const NO_OFFER: u32 = 1000000;
-
-// The answer for a book that is not sound.
-pub fn broken() -> Check
-    ensures { result ≡ unsound }
-{
-    Check {
-        ok: false,
-        bid: 0,
-        offer: 0,
-        shownbid: 0,
-        shownoffer: 0,
-        quoted: false,
-        seats: [false; 33],
-    }
-}
-
-fn higher_of(p: u32, q: u32) -> u32
-    ensures { result ≡ higher_price p q }
-{
-    if p < q { q } else { p }
-}
-
-fn lower_of(p: u32, q: u32) -> u32
-    ensures { result ≡ lower_price p q }
-{
-    if p < q { p } else { q }
-}
 
 // What an entry at this price adds to the highest buy, and to the lowest sell: one of the other side adds nothing.
 fn buys_at(e: Entry, p: u32) -> u32
@@ -72,11 +45,11 @@ pub fn bettered(best: Best, e: Entry) -> Best
     let display = display_of(e);
     let shown = held_of(display);
     Best {
-        top: higher_of(best.top, e.number),
-        bid: higher_of(best.bid, buys_at(e, e.working)),
-        offer: lower_of(best.offer, sells_at(e, e.working)),
-        shownbid: higher_of(best.shownbid, buys_at(e, display)),
-        shownoffer: lower_of(best.shownoffer, sells_at(e, shown)),
+        top: best.top.max(e.number),
+        bid: best.bid.max(buys_at(e, e.working)),
+        offer: best.offer.min(sells_at(e, e.working)),
+        shownbid: best.shownbid.max(buys_at(e, display)),
+        shownoffer: best.shownoffer.min(sells_at(e, shown)),
         quoted: best.quoted | is_quote(e),
     }
 }
@@ -136,14 +109,7 @@ fn is_listed(numbers: &[u32; 64], n: usize, number: u32) -> bool
     requires { (n ≤ 64) × (length numbers.now ≡ 64) }
     ensures { result ≡ any (eqb number) (take n numbers.now) }
 {
-    let mut i = 0usize;
-    while i < n {
-        if number == numbers[i] {
-            return true;
-        }
-        i += 1;
-    }
-    false
+    numbers[..n].contains(&number)
 }
 
 // Whether it is none of them, of which `top` is the highest. Entries post in the order of their numbers, so only one that has been moved

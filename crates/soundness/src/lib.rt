@@ -11,11 +11,10 @@ ghost use Rattle.soundness.specs.Summary.{Checked};
 use book::Book;
 use prices::step::is_mpv;
 
-// The verdict; and if it is `ok`, the best working price of each side and the best price shown, 0 for none, whether any quote rests, and
-// which makers have one on which side.
+// What the pass has seen of a sound book: the best working price of each side and the best price shown, 0 for none, whether any quote rests,
+// and which makers have one on which side.
 #[derive(Clone, Copy)]
 pub struct Check {
-    pub ok: bool,
     pub bid: u32,
     pub offer: u32,
     pub shownbid: u32,
@@ -36,18 +35,18 @@ pub struct Best {
     pub quoted: bool,
 }
 
-// Takes any book, however damaged.
-pub fn check_book(b: Book, m: u32, given: u32) -> Check
+// Takes any book, however damaged; none is the answer for one that is not sound.
+pub fn check_book(b: Book, m: u32, given: u32) -> Option<Check>
     ensures { Checked m given b result }
 {
     if 64 < b.count {
-        return figures::broken();
+        return None;
     }
     if !is_mpv(m) {
-        return figures::broken();
+        return None;
     }
     if !pass::is_rest_unused(b) {
-        return figures::broken();
+        return None;
     }
     pass::check_resting(b, m, given)
 }

@@ -26,11 +26,10 @@ pub record Going {S : Type 0} (step : S → Step S Report) (measure : S → ℕ)
   pub bytes : written room n (ran step measure s).records ≡ written room₀ n₀ (ran step measure s₀).records
   pub count : n + length (ran step measure s).records ≡ n₀ + length (ran step measure s₀).records
   pub roomy : Roomy room n (ran step measure s).records
-  pub kept : length room ≡ length room₀
 
 pub going_start : {S : Type 0} {step : S → Step S Report} {measure : S → ℕ} {Ok : S → Type 0} {s : S} {room : List ℕ} {n : ℕ}
     → Ok s → Roomy room n (ran step measure s).records → Going step measure Ok s room n s room n
-going_start o r = record { ok = o; final = refl; bytes = refl; count = refl; roomy = r; kept = refl }
+going_start o r = record { ok = o; final = refl; bytes = refl; count = refl; roomy = r }
 
 module _ {S : Type 0} {step : S → Step S Report} {measure : S → ℕ} {Ok : S → Type 0}
     {s₀ : S} {room₀ : List ℕ} {n₀ : ℕ} {s : S} {room : List ℕ} {n : ℕ} (v : Going step measure Ok s₀ room₀ n₀ s room n) where
@@ -75,7 +74,6 @@ module _ {S : Type 0} {step : S → Step S Report} {measure : S → ℕ} {Ok : S
           ∙ ap (λ (x : Ran S Report). written room n x.records) (sym first) ∙ v.bytes;
       count = omega (arith, c, ap (λ (x : Ran S Report). length x.records) first, v.count);
       roomy = record { space = omega (arith, ap length w, length-written room n (r ∷ []), roomy-here.space, c); fit = roomy-here.fit.1 };
-      kept = omega (arith, ap length w, length-written room n (r ∷ []), v.kept);
     }
 
 -- ---- over a book ----

@@ -1,5 +1,5 @@
--- A stage of the handler takes the book, the lent report room and the number of reports in it so far, and gives the book back; its definition is a run,
--- the entries that then rest and its reports in their order. These records say for every stage what it asks and what it ensures.
+-- A stage of the handler takes the book and the lent reports, the room and the number of reports in it so far, and gives the book back; its
+-- definition is a run, the entries that then rest and its reports in their order. These records say for every stage what it asks and what it ensures.
 -- No rule of document 01 stands here, only words for contracts.
 -- Assumes nothing.
 use Rattle.std.specs.Prelude.{ℕ, ◌+◌, ◌*◌, ◌≤◌, ◌≡◌, List, [], ◌∷◌, length}

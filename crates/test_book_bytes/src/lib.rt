@@ -44,10 +44,8 @@ pub fn book_of(bytes: &[u8]) -> Book
 {
     let mut b = book::change::empty();
     b.count = number_at(bytes, 0) as usize;
-    let mut i = 0usize;
-    while i < 64 {
+    for i in 0..64usize {
         b.entries[i] = entry_at(bytes, 4 + 24 * i);
-        i += 1;
     }
     b
 }

@@ -3,8 +3,7 @@
 use Rattle.std.specs.Prelude.{ℕ, min, Bool, not, ◌&&◌, List, eqb}
 use Rattle.test_reading.specs.Number.{number_at}
 use Rattle.book.specs.declared.Entry.{Entry}
-use Rattle.book.specs.declared.Pricing.{Pricing}
-use Rattle.book.specs.declared.Pricing.TheVariants.{Fixed, Dark, Sliding}
+use Rattle.book.specs.Entries.{pricing_number}
 
 -- a length in 4 bytes, and no more than there is place for
 abbrev pub length_at : List ℕ → ℕ → ℕ → ℕ
@@ -14,14 +13,8 @@ length_at bytes at most = min (number_at bytes at) most
 abbrev pub filling : ℕ → Bool
 filling byte = eqb byte 165
 
--- how an entry is priced, as a number
-abbrev pub sort_of : Pricing → ℕ
-sort_of Fixed = 0
-sort_of Dark = 1
-sort_of (Sliding d) = 2
-
 -- what stands in a place that is not used
 abbrev pub blank : Entry → Bool
 blank e =
-    eqb (sort_of e.pricing) 0 && (eqb e.number 0 && (eqb e.party 0 && (eqb e.kind 0 && (not e.sell
+    eqb (pricing_number e.pricing) 0 && (eqb e.number 0 && (eqb e.party 0 && (eqb e.kind 0 && (not e.sell
     && (eqb e.limit 0 && (eqb e.quantity 0 && eqb e.working 0))))))

@@ -14,20 +14,17 @@ ghost use Rattle.test_handed_in.specs.Case.{length_at};
 use handler::handle::handle;
 use lines::line::{LONGEST_ANSWER, answer_lines};
 use std::io;
-use std::io::Read;
-use test_reading::input::read_full;
+use test_reading::input::next_record;
 use test_reading::number_at;
 use test_series_bytes::series_of;
+
+const CASE: usize = 1614;
 
 // The length that stands at a place, and `most` for a longer one.
 fn length_at(bytes: &[u8], at: usize, most: usize) -> usize
     ensures { (result ≡ length_at bytes.now at most) × (result ≤ most) }
 {
-    let n = number_at(bytes, at) as usize;
-    if most < n {
-        return most;
-    }
-    n
+    (number_at(bytes, at) as usize).min(most)
 }
 
 // What the session program prints for this answer to message `number`.
@@ -54,10 +51,14 @@ fn try_with(
     requires { length bytes.now ≡ 1614 }
 {
     let end = 1598 + length_at(bytes, 1594, 16);
-    let answer = handle(series_of(bytes), &bytes[1598..end], room);
-    tell_answer(rt, out, number, answer.refusal, answer.count, room)?;
-    room::tell_room(rt, room, answer.count)?;
-    tell::tell_series(rt, answer.series)
+    let before = series_of(bytes);
+    let (refusal, count, after) = match handle(before, &bytes[1598..end], room) {
+        Ok(answer) => (0, answer.count, answer.series),
+        Err(why) => (u32::from(why), 0, before),
+    };
+    tell_answer(rt, out, number, refusal, count, room)?;
+    room::tell_room(rt, room, count)?;
+    tell::tell_series(rt, after)
 }
 
 // Before it is handed to the handler, the room holds nothing but the filling.
@@ -69,25 +70,15 @@ fn try_case(rt: &impl Print, bytes: &[u8], number: u64, out: &mut [u8]) -> io::R
     try_with(rt, bytes, number, &mut room[..size], out)
 }
 
-// One case, or none where the input has ended.
-fn turn(rt: &impl Print, input: &mut impl Read, number: u64, out: &mut [u8]) -> io::Result<bool> {
-    let mut bytes = [0u8; 1614];
-    let n = read_full(input, &mut bytes)?;
-    if n < 1614 {
-        return Ok(false);
-    }
-    try_case(rt, &bytes, number, out)?;
-    Ok(true)
-}
-
 // As many cases as there are, and 1,000 at most.
 fn main(rt: HostRuntime) -> io::Result<()> {
     let mut input = rt.stdin();
     let mut out = [0u8; LONGEST_ANSWER];
     for number in 1..1001u64 {
-        if !turn(&rt, &mut input, number, &mut out)? {
+        let Some(bytes) = next_record::<CASE, _>(&mut input)? else {
             break;
-        }
+        };
+        try_case(&rt, &bytes, number, &mut out)?;
     }
     Ok(())
 }

@@ -3,39 +3,34 @@
 // reasons, else the reports), the length of its bytes and the bytes. A length is four bytes, most significant first.
 #![tactic(auto)]
 
-ghost use Rattle.std.specs.Prelude.{◌+◌, ◌<◌, ◌≤◌, min, length};
+ghost use Rattle.std.specs.Prelude.{◌-◌, ◌≤◌, length};
 
 use lines::line::LONGEST_ANSWER;
 use series::Series;
 use std::io;
 use test_reading::input::read_full;
-use test_reading::number_at;
 use transcript::{View, tell_held, tell_setup};
 
-// Tells the messages from `first` on, as far as there is room for their lines, and writes these out, until all are told.
+// Tells the messages, as far as there is room for their lines, and writes these out, until all are told.
 fn tell_messages(
     rt: &impl Print,
     view: View,
     start: Series,
     run: &[u8],
-    first: usize,
     out: &mut [u8],
-) -> io::Result<()>
-    requires { first ≤ length run.now }
-{
+) -> io::Result<()> {
     let mut series = start;
     let mut number: u64 = 1;
-    let mut at = first;
-    while at < run.len() {
-        let told = tell_held(view, series, number, &run[at..], true, out);
+    let mut left = run;
+    while !left.is_empty() {
+        let told = tell_held(view, series, number, left, true, out);
         rt.write_all(&out[..told.used])?;
         if told.at == 0 {
-            return Ok(());
+            break;
         }
-        let after = told.series;
-        series = after;
+        series = told.series;
         number = told.number;
-        at += told.at;
+        left = &left[told.at..];
     }
     Ok(())
 }
@@ -43,38 +38,21 @@ fn tell_messages(
 fn play(rt: &impl Print, view: View, run: &[u8], out: &mut [u8]) -> io::Result<()> {
     let begun = tell_setup(run, out);
     rt.write_all(&out[..begun.used])?;
-    if begun.refusal != 0 {
+    let Ok(series) = begun.series else {
         return Ok(());
-    }
-    let series = begun.series;
-    tell_messages(rt, view, series, run, begun.at, out)
+    };
+    tell_messages(rt, view, series, &run[begun.at..], out)
 }
 
-// The end of the part of the bundle whose length stands at `at`; no more than the bundle's end.
-fn part_end(bundle: &[u8], at: usize) -> usize
-    requires { at ≤ length bundle.now }
-    ensures { (at ≤ result) × (result ≤ length bundle.now) × (min (at + 1) (length bundle.now) ≤ result) }
+// The part whose length stands in front, and what is behind it. Neither goes beyond the bundle's end.
+fn next_part(bundle: &[u8]) -> (&[u8], &[u8])
+    ensures { length result.1.now ≤ length bundle.now - 1 }
 {
-    if bundle.len() - at < 4 {
-        return bundle.len();
-    }
-    let long = number_at(bundle, at) as usize;
-    let start = at + 4;
-    if bundle.len() - start < long {
-        return bundle.len();
-    }
-    start + long
-}
-
-// Where that part starts.
-fn part_start(at: usize, end: usize) -> usize
-    requires { at ≤ end }
-    ensures { result ≤ end }
-{
-    if end - at < 4 {
-        return end;
-    }
-    at + 4
+    let Some((long, rest)) = bundle.split_first_chunk::<4>() else {
+        return (&[], &[]);
+    };
+    let long = u32::from_be_bytes(*long) as usize;
+    rest.split_at(long.min(rest.len()))
 }
 
 fn print_name(rt: &impl Print, name: &[u8]) -> io::Result<()> {
@@ -85,48 +63,32 @@ fn print_name(rt: &impl Print, name: &[u8]) -> io::Result<()> {
 
 // What a byte asks to see.
 fn view_of(byte: u8) -> View {
-    if byte == 1 {
-        return View::Book;
+    match byte {
+        1 => View::Book,
+        2 => View::Why,
+        _ => View::Reports,
     }
-    if byte == 2 {
-        return View::Why;
-    }
-    View::Reports
 }
 
-// What the byte at a place asks to see.
-fn view_at(bundle: &[u8], at: usize) -> View
-    requires { at ≤ length bundle.now }
+// What the byte in front asks to see, and what is behind it.
+fn next_view(bundle: &[u8]) -> (View, &[u8])
+    ensures { length result.1.now ≤ length bundle.now }
 {
-    if at < bundle.len() {
-        return view_of(bundle[at]);
+    match bundle.split_first() {
+        Some((byte, rest)) => (view_of(*byte), rest),
+        None => (View::Reports, bundle),
     }
-    View::Reports
-}
-
-// The place behind that byte.
-fn place_behind(bundle: &[u8], at: usize) -> usize
-    requires { at ≤ length bundle.now }
-    ensures { (at ≤ result) × (result ≤ length bundle.now) }
-{
-    if at < bundle.len() {
-        return at + 1;
-    }
-    at
 }
 
 fn play_all(rt: &impl Print, bundle: &[u8], out: &mut [u8]) -> io::Result<()> {
-    let mut at = 0usize;
-    while at < bundle.len() {
-        let named = part_end(bundle, at);
-        let name = part_start(at, named);
-        print_name(rt, &bundle[name..named])?;
-        let view = view_at(bundle, named);
-        let viewed = place_behind(bundle, named);
-        let end = part_end(bundle, viewed);
-        let start = part_start(viewed, end);
-        play(rt, view, &bundle[start..end], out)?;
-        at = end;
+    let mut left = bundle;
+    while !left.is_empty() {
+        let (name, rest) = next_part(left);
+        print_name(rt, name)?;
+        let (view, rest) = next_view(rest);
+        let (lesson, rest) = next_part(rest);
+        play(rt, view, lesson, out)?;
+        left = rest;
     }
     Ok(())
 }

@@ -17,19 +17,20 @@ fn tell(rt: &impl Print, letter: u8, part: &[u8]) -> io::Result<()> {
         b'r' => values::report(rt, part)?,
         b'o' => values::in_room(rt, part)?,
         b'w' => values::widths(rt, part)?,
-        _ => text::print(rt, b"?")?,
+        _ => rt.print("?")?,
     }
-    text::print(rt, b"\n")
+    rt.print("\n")
 }
 
 fn tell_all(rt: &impl Print, table: &[u8]) -> io::Result<()> {
     let mut bytes = [0u8; 64];
-    let mut at = 0;
-    while at < table.len() {
-        let end = text::line_end(table, at);
-        let n = text::gather(table, at + 1, end, &mut bytes);
-        tell(rt, table[at], &bytes[..n])?;
-        at = end + 1;
+    for line in table.split_inclusive(|b| *b == b'\n') {
+        let Some((letter, rest)) = line.split_first() else {
+            continue;
+        };
+        let digits = rest.strip_suffix(b"\n").unwrap_or(rest);
+        let n = text::gather(digits, &mut bytes);
+        tell(rt, *letter, &bytes[..n])?;
     }
     Ok(())
 }

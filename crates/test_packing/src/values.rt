@@ -1,21 +1,17 @@
 // What bytes unpack to, and whether that packs to the same bytes again.
-use crate::text::{print, print_all, print_bytes, stands};
+use crate::text::{print_all, print_bytes, stands};
 use packing::message::{Entering, Event};
 use packing::report::Report;
 use packing::setup::Setup;
 use std::io;
-use test_reading::{number_at, wide};
+use test_reading::number_at;
 
-fn print_same(rt: &impl Print, ok: bool, same: bool) -> io::Result<()> {
-    if ok & same {
-        print(rt, b" same")
-    } else {
-        print(rt, b" other")
-    }
+fn print_same(rt: &impl Print, same: bool) -> io::Result<()> {
+    rt.print(if same { " same" } else { " other" })
 }
 
 fn of_entering(kind: u32, t: Entering) -> [u32; 5] {
-    [kind, t.party, t.sell as u32, t.price, t.quantity]
+    [kind, t.party, u32::from(t.sell), t.price, t.quantity]
 }
 
 // An event's kind and values.
@@ -28,7 +24,7 @@ fn numbers(e: Event) -> [u32; 5] {
         Event::Displayed(t) => of_entering(5, t),
         Event::Dark(t) => of_entering(6, t),
         Event::CancelEntry { party, entry } => [7, party, entry, 0, 0],
-        Event::CancelQuote { party, sell } => [8, party, sell as u32, 0, 0],
+        Event::CancelQuote { party, sell } => [8, party, u32::from(sell), 0, 0],
         Event::Away { bid, offer } => [9, bid, offer, 0, 0],
         Event::Underlying { price } => [10, price, 0, 0, 0],
         Event::Phase { phase } => [11, phase, 0, 0, 0],
@@ -37,72 +33,68 @@ fn numbers(e: Event) -> [u32; 5] {
 }
 
 // What a message that stands at a place of a run unpacked to.
-fn tell_message(
-    rt: &impl Print,
-    u: packing::message::Unpacked,
-    run: &[u8],
-    at: usize,
-) -> io::Result<()> {
-    let packing::message::Unpacked::Message(e) = u else {
-        return print(rt, b" nothing");
+fn tell_message(rt: &impl Print, u: Option<Event>, run: &[u8], at: usize) -> io::Result<()> {
+    let Some(e) = u else {
+        return rt.print(" nothing");
     };
-    let ns = numbers(e);
-    print_all(rt, &ns)?;
-    let p = packing::message::pack(e);
-    let bytes = p.bytes;
-    print_same(rt, p.ok, stands(&bytes, run, at))
+    print_all(rt, &numbers(e))?;
+    print_same(
+        rt,
+        packing::message::pack(e).is_some_and(|bytes| stands(&bytes, run, at)),
+    )
 }
 
 pub(crate) fn message(rt: &impl Print, part: &[u8]) -> io::Result<()> {
-    print(rt, b"message")?;
+    rt.print("message")?;
     let u = packing::message::unpack(part);
     tell_message(rt, u, part, 0)
 }
 
 // The first byte is the place, and the others are the run.
 pub(crate) fn in_run(rt: &impl Print, part: &[u8]) -> io::Result<()> {
-    print(rt, b"run")?;
-    if part.len() == 0 {
+    rt.print("run")?;
+    if part.is_empty() {
         return Ok(());
     }
-    let at = wide(part[0]) as usize;
+    let at = usize::from(part[0]);
     let run = &part[1..];
     let u = packing::message::unpack_at(run, at);
     tell_message(rt, u, run, at)
 }
 
 pub(crate) fn report(rt: &impl Print, part: &[u8]) -> io::Result<()> {
-    print(rt, b"report")?;
-    let u = packing::report::unpack(part);
-    let packing::report::Unpacked::Told(r) = u else {
-        return print(rt, b" nothing");
+    rt.print("report")?;
+    let Some(r) = packing::report::unpack(part) else {
+        return rt.print(" nothing");
     };
-    let ns = packing::report::fields_of(r);
-    print_all(rt, &ns)?;
-    let p = packing::report::pack(r);
-    let bytes = p.bytes;
-    print_same(rt, p.ok, stands(&bytes, part, 0))
+    print_all(rt, &packing::report::fields_of(r))?;
+    print_same(
+        rt,
+        packing::report::pack(r).is_some_and(|bytes| stands(&bytes, part, 0)),
+    )
 }
 
 pub(crate) fn setup(rt: &impl Print, part: &[u8]) -> io::Result<()> {
-    print(rt, b"setup")?;
-    let u = packing::setup::unpack(part);
-    let packing::setup::Unpacked::Series(s) = u else {
-        return print(rt, b" nothing");
+    rt.print("setup")?;
+    let Some(s) = packing::setup::unpack(part) else {
+        return rt.print(" nothing");
     };
-    let ns = [s.put as u32, s.exempt as u32, s.m, s.k, s.strike];
-    print_all(rt, &ns)?;
-    let p = packing::setup::pack(s);
-    let bytes = p.bytes;
-    print_same(rt, p.ok, stands(&bytes, part, 0))
+    print_all(
+        rt,
+        &[u32::from(s.put), u32::from(s.exempt), s.m, s.k, s.strike],
+    )?;
+    print_same(
+        rt,
+        packing::setup::pack(s).is_some_and(|bytes| stands(&bytes, part, 0)),
+    )
 }
 
 // Writes a report at a place of a room, and prints what the room then holds.
 fn print_put(rt: &impl Print, room: &mut [u8], at: usize, r: Report) -> io::Result<()> {
     if packing::room::put_report(room, at, r) {
-        print(rt, b" put ")?;
+        rt.print(" put ")?;
     } else {
-        print(rt, b" left ")?;
+        rt.print(" left ")?;
     }
     print_bytes(rt, room)
 }
@@ -123,39 +115,36 @@ fn print_put_first(
 
 // The first byte is the room's length, the second the place, and the others are the report.
 pub(crate) fn in_room(rt: &impl Print, part: &[u8]) -> io::Result<()> {
-    print(rt, b"room")?;
+    rt.print("room")?;
     if part.len() < 2 {
         return Ok(());
     }
-    let n = wide(part[0]) as usize;
-    let at = wide(part[1]) as usize;
-    let u = packing::report::unpack(&part[2..]);
-    let packing::report::Unpacked::Told(r) = u else {
-        return print(rt, b" nothing");
+    let n = usize::from(part[0]);
+    let at = usize::from(part[1]);
+    let Some(r) = packing::report::unpack(&part[2..]) else {
+        return rt.print(" nothing");
     };
     let mut room = [238u8; 64];
     print_put_first(rt, &mut room, n, at, r)
 }
 
 fn packs(e: Event) -> u32 {
-    let p = packing::message::pack(e);
-    p.ok as u32
+    u32::from(packing::message::pack(e).is_some())
 }
 
 fn report_packs(r: Report) -> u32 {
-    let p = packing::report::pack(r);
-    p.ok as u32
+    u32::from(packing::report::pack(r).is_some())
 }
 
 fn setup_packs(m: u32, k: u32, strike: u32) -> u32 {
-    let p = packing::setup::pack(Setup {
+    let packed = packing::setup::pack(Setup {
         put: false,
         exempt: true,
         m,
         k,
         strike,
     });
-    p.ok as u32
+    u32::from(packed.is_some())
 }
 
 fn cancelled(reason: u32, limit: u32) -> Report {
@@ -217,12 +206,9 @@ fn setup_widths(n: u32) -> [u32; 3] {
 
 // Which values pack that have this number in one field, and small ones in the others.
 pub(crate) fn widths(rt: &impl Print, part: &[u8]) -> io::Result<()> {
-    print(rt, b"widths")?;
+    rt.print("widths")?;
     let n = number_at(part, 0);
-    let a = message_widths(n);
-    print_all(rt, &a)?;
-    let b = report_widths(n);
-    print_all(rt, &b)?;
-    let c = setup_widths(n);
-    print_all(rt, &c)
+    print_all(rt, &message_widths(n))?;
+    print_all(rt, &report_widths(n))?;
+    print_all(rt, &setup_widths(n))
 }

@@ -9,78 +9,93 @@ mod tell;
 ghost use Rattle.std.specs.Prelude.{◌≡◌};
 ghost use Rattle.test_prices.specs.Question.{question_in};
 
-use std::io;
-use std::io::Read;
-use test_reading::input::read_full;
+use std::{array, io};
+use test_reading::input::next_record;
 use test_reading::number_at;
 
-// What is asked, and its figures; those that it does not use are zero.
-#[derive(Clone, Copy)]
-struct Question {
-    ask: u32,
-    a: u32,
-    b: u32,
-    c: u32,
-    d: u32,
-    e: u32,
-    f: u32,
-    g: u32,
-    h: u32,
-}
+// How many bytes a question has.
+const QUESTION: usize = 36;
 
-fn asked_in(bytes: &[u8]) -> Question
+fn asked_in(bytes: &[u8]) -> [u32; 9]
     ensures { result ≡ question_in bytes.now }
 {
-    Question {
-        ask: number_at(bytes, 0),
-        a: number_at(bytes, 4),
-        b: number_at(bytes, 8),
-        c: number_at(bytes, 12),
-        d: number_at(bytes, 16),
-        e: number_at(bytes, 20),
-        f: number_at(bytes, 24),
-        g: number_at(bytes, 28),
-        h: number_at(bytes, 32),
-    }
+    array::from_fn(|i| number_at(bytes, 4 * i))
 }
 
-fn answer(rt: &impl Print, q: Question) -> io::Result<()> {
-    let ask = q.ask;
-    match ask {
-        1 => tell::aims(rt, q.a, q.b, q.c, q.d, q.e, q.f),
-        2 => tell::protection(rt, q.a != 0, q.b != 0, q.c, q.d, q.e != 0, q.f, q.g),
-        3 => tell::stop(rt, q.a, q.b, q.c, q.d != 0, q.e, q.f, q.g, q.h),
-        4 => tell::resting(rt, q.a != 0, q.b, q.c, q.d),
-        5 => tell::eased(rt, q.a != 0, q.b, q.c, q.d),
-        6 => tell::legal(rt, q.a, q.b),
-        7 => tell::stirring(rt, q.a, q.b, q.c != 0, q.d, q.e, q.f, q.g, q.h),
-        8 => tell::slide(rt, q.a, q.b != 0, q.c, q.d, q.e),
-        9 => tell::best(rt, q.a != 0, q.b, q.c),
-        10 => tell::away(rt, q.a != 0, q.b, q.c),
-        11 => tell::figures_of_stop(rt, q.a, q.b, q.c, q.d != 0, q.e, q.f, q.g, q.h),
-        12 => tell::figures_of_bar(rt, q.a, q.b != 0, q.c != 0, q.d, q.e, q.f != 0, q.g, q.h),
+// What is asked comes first, and then its figures; those that it does not use are passed over.
+fn answer(rt: &impl Print, question: [u32; 9]) -> io::Result<()> {
+    match question {
+        [1, kind, side, limit, away, contra, m, _, _] => {
+            tell::aims(rt, kind, side, limit, away, contra, m)
+        }
+        [2, put, exempt, strike, underlying, sell, best, limit, _] => {
+            tell::protection(
+                rt,
+                put != 0,
+                exempt != 0,
+                strike,
+                underlying,
+                sell != 0,
+                best,
+                limit,
+            )
+        }
+        [3, m, k, kind, sell, limit, away, hidden, display] => {
+            tell::stop(rt, m, k, kind, sell != 0, limit, away, hidden, display)
+        }
+        [4, sell, shown, display, working, _, _, _, _] => {
+            tell::resting(rt, sell != 0, shown, display, working)
+        }
+        [5, sell, away, display, working, _, _, _, _] => {
+            tell::eased(rt, sell != 0, away, display, working)
+        }
+        [6, m, price, _, _, _, _, _, _] => tell::legal(rt, m, price),
+        [7, m, kind, sell, limit, away, contra, display, working] => {
+            tell::stirring(
+                rt,
+                m,
+                kind,
+                sell != 0,
+                limit,
+                away,
+                contra,
+                display,
+                working,
+            )
+        }
+        [8, m, sell, limit, display, working, _, _, _] => {
+            tell::slide(rt, m, sell != 0, limit, display, working)
+        }
+        [9, sell, away, shown, _, _, _, _, _] => tell::best(rt, sell != 0, away, shown),
+        [10, sell, bid, offer, _, _, _, _, _] => tell::away(rt, sell != 0, bid, offer),
+        [11, rule, m, k, sell, limit, away, hidden, display] => {
+            tell::figures_of_stop(rt, rule, m, k, sell != 0, limit, away, hidden, display)
+        }
+        [12, rule, put, exempt, strike, underlying, sell, best, limit] => {
+            tell::figures_of_bar(
+                rt,
+                rule,
+                put != 0,
+                exempt != 0,
+                strike,
+                underlying,
+                sell != 0,
+                best,
+                limit,
+            )
+        }
         _ => tell::nothing(rt),
     }
-}
-
-// One question, or none where the input has ended.
-fn turn(rt: &impl Print, input: &mut impl Read) -> io::Result<bool> {
-    let mut bytes = [0u8; 36];
-    let n = read_full(input, &mut bytes)?;
-    if n < 36 {
-        return Ok(false);
-    }
-    answer(rt, asked_in(&bytes))?;
-    tell::end(rt)?;
-    Ok(true)
 }
 
 fn main(rt: HostRuntime) -> io::Result<()> {
     let mut input = rt.stdin();
     for _ in 0..1000000u32 {
-        if !turn(&rt, &mut input)? {
+        let Some(bytes) = next_record::<QUESTION, _>(&mut input)? else {
             break;
-        }
+        };
+        answer(&rt, asked_in(&bytes))?;
+        tell::end(&rt)?;
     }
     Ok(())
 }

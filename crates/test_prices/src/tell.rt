@@ -2,11 +2,12 @@
 use prices::ease::eased_to;
 use prices::post::{stop_figures, stop_of};
 use prices::protect::{bar_figures, protection_of};
+use prices::reason::Reason;
 use prices::request::request_aims;
 use prices::rest::{is_slide, is_stirring_at, resting_of};
 use prices::side::{away_of, nearer_of};
 use prices::step::{is_legal, is_mpv, is_none_or_legal};
-use prices::{Figures, Guard, Market, Prices};
+use prices::{Against, Figures, Guard, Interest, Market, Posting, Prices};
 use std::io;
 
 pub(crate) fn end(rt: &impl Print) -> io::Result<()> {
@@ -28,7 +29,12 @@ fn then(rt: &impl Print, n: u32) -> io::Result<()> {
 }
 
 fn truth(rt: &impl Print, b: bool) -> io::Result<()> {
-    if b { number(rt, 1) } else { number(rt, 0) }
+    rt.print(u32::from(b))
+}
+
+// The number of a reason, 0 for none.
+fn reason(rt: &impl Print, why: Option<Reason>) -> io::Result<()> {
+    number(rt, why.map_or(0, u32::from))
 }
 
 pub(crate) fn aims(
@@ -40,10 +46,18 @@ pub(crate) fn aims(
     contra: u32,
     m: u32,
 ) -> io::Result<()> {
-    let r = request_aims(kind, side, limit, away, contra, m);
-    number(rt, r.refusal)?;
-    then(rt, r.display)?;
-    then(rt, r.working)
+    match request_aims(kind, side, limit, away, contra, m) {
+        Ok(aim) => {
+            number(rt, 0)?;
+            then(rt, aim.display)?;
+            then(rt, aim.working)
+        }
+        Err(why) => {
+            number(rt, why.into())?;
+            then(rt, 0)?;
+            then(rt, 0)
+        }
+    }
 }
 
 pub(crate) fn protection(
@@ -68,7 +82,7 @@ pub(crate) fn protection(
         strike,
         underlying,
     };
-    number(rt, protection_of(guard, sell, best, limit))
+    reason(rt, protection_of(guard, sell, best, limit))
 }
 
 pub(crate) fn stop(
@@ -86,14 +100,22 @@ pub(crate) fn stop(
         return nothing(rt);
     }
     if is_mpv(m) {
-        return number(rt, stop_of(m, k, kind, sell, limit, away, hidden, display));
+        let entry = Interest { kind, sell, limit };
+        let posting = Posting {
+            m,
+            k,
+            away,
+            hidden,
+            display,
+        };
+        return reason(rt, stop_of(entry, posting));
     }
     nothing(rt)
 }
 
 fn both(rt: &impl Print, figures: Figures) -> io::Result<()> {
-    number(rt, figures.first)?;
-    then(rt, figures.second)
+    let Figures { first, second } = figures;
+    print!(rt; "{first} {second}")
 }
 
 pub(crate) fn figures_of_stop(
@@ -110,13 +132,23 @@ pub(crate) fn figures_of_stop(
     if k > 100 {
         return nothing(rt);
     }
-    if is_mpv(m) {
-        return both(
-            rt,
-            stop_figures(rule, m, k, sell, limit, away, hidden, display),
-        );
+    if !is_mpv(m) {
+        return nothing(rt);
     }
-    nothing(rt)
+    // of whatever kind
+    let entry = Interest {
+        kind: 0,
+        sell,
+        limit,
+    };
+    let posting = Posting {
+        m,
+        k,
+        away,
+        hidden,
+        display,
+    };
+    both(rt, stop_figures(rule, entry, posting))
 }
 
 pub(crate) fn figures_of_bar(
@@ -130,10 +162,7 @@ pub(crate) fn figures_of_bar(
     best: u32,
     limit: u32,
 ) -> io::Result<()> {
-    if best > 100000 {
-        return nothing(rt);
-    }
-    if limit > 100000 {
+    if best > 100000 || limit > 100000 {
         return nothing(rt);
     }
     let guard = Guard {
@@ -153,9 +182,8 @@ pub(crate) fn resting(
     working: u32,
 ) -> io::Result<()> {
     let aim = Prices { display, working };
-    let r = resting_of(sell, shown, aim);
-    number(rt, r.display)?;
-    then(rt, r.working)
+    let Prices { display, working } = resting_of(sell, shown, aim);
+    print!(rt; "{display} {working}")
 }
 
 pub(crate) fn eased(
@@ -165,23 +193,23 @@ pub(crate) fn eased(
     display: u32,
     working: u32,
 ) -> io::Result<()> {
-    number(rt, eased_to(sell, away, display, working))
+    rt.print(eased_to(sell, away, display, working))
 }
 
 pub(crate) fn best(rt: &impl Print, sell: bool, away: u32, shown: u32) -> io::Result<()> {
-    number(rt, nearer_of(sell, away, shown))
+    rt.print(nearer_of(sell, away, shown))
 }
 
 pub(crate) fn away(rt: &impl Print, sell: bool, bid: u32, offer: u32) -> io::Result<()> {
     let market = Market { m: 1, bid, offer };
-    number(rt, away_of(market, sell))
+    rt.print(away_of(market, sell))
 }
 
 pub(crate) fn legal(rt: &impl Print, m: u32, p: u32) -> io::Result<()> {
-    if is_mpv(m) {
-        return truth(rt, is_legal(m, p));
+    if !is_mpv(m) {
+        return nothing(rt);
     }
-    nothing(rt)
+    truth(rt, is_legal(m, p))
 }
 
 pub(crate) fn stirring(
@@ -195,15 +223,13 @@ pub(crate) fn stirring(
     display: u32,
     working: u32,
 ) -> io::Result<()> {
-    if is_mpv(m) {
-        if is_none_or_legal(m, away) {
-            if is_none_or_legal(m, contra) {
-                return truth(
-                    rt,
-                    is_stirring_at(m, kind, sell, limit, away, contra, display, working),
-                );
-            }
-        }
+    if is_mpv(m) && is_none_or_legal(m, away) && is_none_or_legal(m, contra) {
+        let quote = Interest { kind, sell, limit };
+        let against = Against { m, away, contra };
+        return truth(
+            rt,
+            is_stirring_at(quote, against, Prices { display, working }),
+        );
     }
     nothing(rt)
 }
@@ -216,8 +242,8 @@ pub(crate) fn slide(
     display: u32,
     working: u32,
 ) -> io::Result<()> {
-    if is_mpv(m) {
-        return truth(rt, is_slide(m, sell, limit, display, working));
+    if !is_mpv(m) {
+        return nothing(rt);
     }
-    nothing(rt)
+    truth(rt, is_slide(m, sell, limit, display, working))
 }

@@ -1,24 +1,38 @@
 -- The bytes and numbers of specs/Number, as the code comes by them.
 -- Assumes nothing.
-use Prim.Native.Nat.{ℕ, zero, suc, ◌+◌, ◌*◌, ◌≤◌, ◌<◌}
-use mathlib.Core.Path.{◌≡◌, refl}
-use mathlib.Core.List.{List, [], ◌∷◌}
+use Prim.Native.Nat.{ℕ, ◌+◌, ◌*◌, ◌≤◌, ◌<◌}
+use mathlib.Core.Path.{◌≡◌, sym, ap, ◌∙◌}
+use mathlib.Core.List.{List}
 use native.Mathlib.Omega.{arith}
 use borrow.Author.Tests.{le-leb, lt-leb}
-use lib.ListN.{length}
-use Rattle.test_reading.specs.Number.{byte_at, number_at}
-
-pub beyond : (l : List ℕ) (at : ℕ) → length l ≤ at → 0 ≡ byte_at l at
-beyond [] at h = refl
-beyond (x ∷ l) zero h = absurd (omega arith)
-beyond (x ∷ l) (suc at) h = beyond l at (omega arith)
+use lib.ListN.{length, take, drop, get_or, length-drop}
+use lib.Seq.{get_or-drop, take-length}
+use Rattle.std.specs.List.{slice_range}
+use Rattle.test_reading.specs.Number.{number_at}
 
 module _ (l : List ℕ) (at : ℕ) where
   pub too_few : length l < at + 4 → 0 ≡ number_at l at
   unfolding number_at
   too_few h = rw (lt-leb (at + 4) (length l) h)
 
-  pub four : at + 4 ≤ length l → (a b c d : ℕ) → a ≡ byte_at l at → b ≡ byte_at l (at + 1) → c ≡ byte_at l (at + 2) → d ≡ byte_at l (at + 3)
-      → (a * 256 + b) * 65536 + (c * 256 + d) ≡ number_at l at
+  -- what `get(at..)` lends is what is left from there on
+  to_the_end : slice_range l at (length l) ≡ drop at l
+  to_the_end = ap (λ (n : ℕ). take n (drop at l)) (sym (length-drop at l)) ∙ take-length (drop at l)
+
+  pub four : at ≤ length l → (rest : List ℕ) → rest ≡ slice_range l at (length l) → 4 ≤ length rest
+      → get_or rest 0 0 * 16777216 + get_or rest 1 0 * 65536 + get_or rest 2 0 * 256 + get_or rest 3 0 ≡ number_at l at
   unfolding number_at
-  four h a b c d p q r s = rw (le-leb (at + 4) (length l) h, ← p, ← q, ← r, ← s) (omega arith)
+  four h rest e long =
+      rw (
+        le-leb (at + 4) (length l) (omega (arith, ap length (e ∙ to_the_end), length-drop at l)),
+        e ∙ to_the_end,
+        get_or-drop at l 0 0,
+        get_or-drop at l 1 0,
+        get_or-drop at l 2 0,
+        get_or-drop at l 3 0,
+        front,
+      )
+      (omega arith)
+    where
+      front : at + 0 ≡ at
+      front = omega arith

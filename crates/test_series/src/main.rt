@@ -3,9 +3,11 @@
 
 use series::sound::check_series;
 use std::io;
-use std::io::Read;
-use test_reading::input::read_full;
+use test_reading::input::next_record;
 use test_series_bytes::series_of;
+
+// How many bytes a series has.
+const SERIES: usize = 1590;
 
 fn tell(rt: &impl Print, ok: bool) -> io::Result<()> {
     if ok {
@@ -15,25 +17,15 @@ fn tell(rt: &impl Print, ok: bool) -> io::Result<()> {
     }
 }
 
-// One series, or none where the input has ended.
-fn turn(rt: &impl Print, input: &mut impl Read) -> io::Result<bool> {
-    let mut bytes = [0u8; 1590];
-    let n = read_full(input, &mut bytes)?;
-    if n < 1590 {
-        return Ok(false);
-    }
-    let check = check_series(series_of(&bytes));
-    tell(rt, check.ok)?;
-    Ok(true)
-}
-
 // As many series as there are, and 1,000 at most.
 fn main(rt: HostRuntime) -> io::Result<()> {
     let mut input = rt.stdin();
     for _ in 0..1000u32 {
-        if !turn(&rt, &mut input)? {
+        let Some(bytes) = next_record::<SERIES, _>(&mut input)? else {
             break;
-        }
+        };
+        let check = check_series(series_of(&bytes));
+        tell(&rt, check.is_some())?;
     }
     Ok(())
 }

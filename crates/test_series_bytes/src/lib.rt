@@ -32,10 +32,8 @@ fn blocked_of(bytes: &[u8]) -> [bool; 16]
     ensures { result ≡ blocked_in bytes.now }
 {
     let mut blocked = [false; 16];
-    let mut i = 0usize;
-    while i < 16 {
+    for i in 0..16usize {
         blocked[i] = byte_at(bytes, 34 + i) == 1;
-        i += 1;
     }
     blocked
 }

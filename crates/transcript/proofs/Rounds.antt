@@ -4,7 +4,7 @@
 use Prim.Native.Nat.{ℕ, zero, suc, ◌+◌, ◌-◌, ◌≤◌, ◌<◌, min}
 use mathlib.Core.Bool.{Bool, true, false, cond}
 use mathlib.Core.List.{List, [], ◌∷◌, ◌++◌, append-nil, append_assoc}
-use mathlib.Core.Option.{Option, none, some}
+use Rattle.std.specs.Prelude.{Option, None, Some}
 use mathlib.Core.Path.{◌≡◌, refl, sym, ap, ap₂, ◌∙◌, subst}
 use native.Mathlib.Omega.{arith}
 use borrow.Author.Tests.{leb-true, leb-false}
@@ -225,9 +225,9 @@ module _ (n : ℕ) (held more : List ℕ) (whole : length held < n → more ≡ 
 
 -- A WHOLE SESSION. First it holds bytes for the setup, fewer than these only where no more are to come; a setup that is refused is all that it reads
 pub data Session (view : View) : List ℕ → List ℕ → Type 0 where
-  refused : (held more : List ℕ) → (length held < setup_size → more ≡ []) → setup_in held ≡ none → Session view (held ++ more) (setup_text none)
-  played : {text : List ℕ} (held more : List ℕ) (setup : Setup) → (length held < setup_size → more ≡ []) → setup_in held ≡ some setup
-      → Rounds view (new_series setup) 1 (rest held more (min (length held) setup_size)) text → Session view (held ++ more) (setup_text (some setup) ++ text)
+  refused : (held more : List ℕ) → (length held < setup_size → more ≡ []) → setup_in held ≡ None → Session view (held ++ more) (setup_text None)
+  played : {text : List ℕ} (held more : List ℕ) (setup : Setup) → (length held < setup_size → more ≡ []) → setup_in held ≡ Some setup
+      → Rounds view (new_series setup) 1 (rest held more (min (length held) setup_size)) text → Session view (held ++ more) (setup_text (Some setup) ++ text)
 
 setup-same : (held more : List ℕ) → (length held < setup_size → more ≡ []) → setup_in (held ++ more) ≡ setup_in held
 setup-same held more whole = ap (unpack_of setups) (sym (front-held setup_size held more whole))
@@ -247,7 +247,7 @@ pub short-setup : (view : View) (input : List ℕ) → length input < setup_size
 unfolding transcript
 short-setup view input h = ap (λ (o : Option Setup). printed_for view o (drop setup_size input)) (unpack-short setups input h)
 
-pub setup-alone : (view : View) (input : List ℕ) (setup : Setup) → setup_in input ≡ some setup → length input ≤ setup_size → transcript view input ≡ []
+pub setup-alone : (view : View) (input : List ℕ) (setup : Setup) → setup_in input ≡ Some setup → length input ≤ setup_size → transcript view input ≡ []
 unfolding transcript lines_for messages_in
 setup-alone view input setup u h =
     ap (λ (o : Option Setup). printed_for view o (drop setup_size input)) u

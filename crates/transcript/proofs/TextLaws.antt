@@ -3,24 +3,21 @@
 use Prim.Native.Nat.{ℕ, zero, suc, ◌+◌, ◌≤◌}
 use mathlib.Core.Bool.{Bool, true, false, cond}
 use mathlib.Core.List.{List}
-use mathlib.Core.Option.{Option}
+use Rattle.std.specs.Prelude.{Option}
 use mathlib.Core.Path.{◌≡◌, refl, sym, ap, ◌∙◌, subst}
 use native.Mathlib.Omega.{arith}
 use borrow.Author.Tests.{le-leb, eq-eqb, ne_eqb}
 use lib.Dec.{eqb}
 use lib.ListN.{length, replicate, length-replicate}
 use Rattle.packing.specs.declared.message.Event.{Event}
-use Rattle.packing.specs.declared.message.Unpacked.{Unpacked}
 use Rattle.packing.specs.declared.report.Report.{Report}
 use Rattle.packing.specs.Codec.{nothing, unpack_of}
-use Rattle.packing.specs.Message.{message_size, messages, unpacked, event_in}
+use Rattle.packing.specs.Message.{message_size, messages}
 use Rattle.packing.specs.Room.{read_back, room_size, most_reports}
-use Rattle.packing.proofs.MessageLaws.{event-in}
 use Rattle.book.specs.Shape.{entries_of}
 use Rattle.series.specs.declared.Series.{Series}
 use Rattle.series.specs.Series.{sound_series}
-use Rattle.handler.specs.declared.Answer.{Answer}
-use Rattle.handler.specs.Handle.{Handled, in_room, refused, handled_as, handled}
+use Rattle.handler.specs.Handle.{Answered, Handled, in_room, refused, handled_as, handled}
 use Rattle.handler.proofs.Refusals.{refusals-keep}
 use Rattle.handler.proofs.Accepted.{accepted-sound}
 use Rattle.handler.proofs.Demands.{handled-length}
@@ -58,7 +55,7 @@ module _ (s : Series) (message room : List ℕ) (large : room_size ≤ length ro
   any-answer = same_answer s message room (replicate room_size 0) large zeros-large
 
   same-refusal : (handled s message room).answer.refusal ≡ (answered s message).answer.refusal
-  same-refusal = ap (λ (a : Answer). a.refusal) any-answer
+  same-refusal = ap (λ (a : Answered). a.refusal) any-answer
 
   any-text : (f : List (Option Report) → List ℕ) (number : ℕ) → text_by f number (handled s message room) ≡ text_by f number (answered s message)
   unfolding answered
@@ -79,7 +76,7 @@ module _ (s : Series) (message room : List ℕ) (large : room_size ≤ length ro
   pub any-room : (view : View) (number : ℕ) → text_of view number s (unpack_of messages message) (handled s message room) ≡ message_text view number s message
   unfolding answer_text why_text
   any-room Reports number = any-text (report_lines number) number
-  any-room Book number = ap (λ (a : Answer). board_text number (entries_of a.series.book)) any-answer
+  any-room Book number = ap (λ (a : Answered). board_text number (entries_of a.series.book)) any-answer
   any-room Why number = any-text (why_lines number s (unpack_of messages message) 0) number
 
 -- no message has more lines than the longest answer
@@ -97,31 +94,28 @@ unfolding roomy
 printed-within {out} lines few space e a = printed-put lines (le-leb _ (length out) (omega arith)) e a
 
 -- what is answered to what a message unpacks to is answered to the message, and its text is the message's
-module _ (s : Series) (message room : List ℕ) {read : Unpacked} (is : read ≡ unpacked (unpack_of messages message)) {r : Answer} {room' : List ℕ}
-    (h : in_room r room' ≡ handled_as s (event_in read) room) where
-  event-is : event_in read ≡ unpack_of messages message
-  event-is = ap event_in is ∙ event-in (unpack_of messages message)
-
+module _ (s : Series) (message room : List ℕ) {read : Option Event} (is : read ≡ unpack_of messages message) {r : Answered} {room' : List ℕ}
+    (h : in_room r room' ≡ handled_as s read room) where
   answer-is : in_room r room' ≡ handled s message room
   unfolding handled
-  answer-is = h ∙ ap (λ (o : Option Event). handled_as s o room) event-is
+  answer-is = h ∙ ap (λ (o : Option Event). handled_as s o room) is
 
-  pub answers : Answers s (event_in read) r
+  pub answers : Answers s read r
   answers = record { passes = passing; few = rw (sym answer-is) at (count-few s message room) }
     where
-      passing : r.refusal ≡ 0 → Passes s (event_in read)
+      passing : r.refusal ≡ 0 → Passes s read
       passing z =
-          let x = heard-of s (event_in read) room (ap (λ (a : Handled). a.answer.refusal) (sym h) ∙ z) in
+          let x = heard-of s read room (ap (λ (a : Handled). a.answer.refusal) (sym h) ∙ z) in
           subst (Passes s) (sym x.read) x.accepts
 
   module _ (large : room_size ≤ length room) where
     pub series-told : r.series ≡ (answered s message).answer.series
     series-told =
-        ap (λ (a : Handled). a.answer.series) answer-is ∙ ap (λ (a : Answer). a.series) (any-answer s message room large)
+        ap (λ (a : Handled). a.answer.series) answer-is ∙ ap (λ (a : Answered). a.series) (any-answer s message room large)
 
     pub text-told : (view : View) (number : ℕ) {out after : List ℕ} {at end : ℕ}
-        → TextPut out at (text_of view number s (event_in read) (in_room r room')) after end → TextPut out at (message_text view number s message) after end
-    text-told view number p = rw (sym (any-room s message room large view number), sym answer-is, sym event-is) p
+        → TextPut out at (text_of view number s read (in_room r room')) after end → TextPut out at (message_text view number s message) after end
+    text-told view number p = rw (sym (any-room s message room large view number), sym answer-is, sym is) p
 
 -- "a short last one included": WHAT IS NO MESSAGE'S LENGTH IS REFUSED as 1, in a sound series, be it the reports that are to be seen or their reasons
 pub short-refused : (number : ℕ) (s : Series) (message : List ℕ) → sound_series s ≡ true → (length message ≡ message_size → ⊥)

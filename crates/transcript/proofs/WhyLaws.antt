@@ -2,9 +2,10 @@
 -- Assumes nothing.
 use Prim.Native.Nat.{ℕ, ◌+◌, ◌^◌, ◌≤◌, ◌<◌}
 use mathlib.Core.List.{List, [], ◌∷◌, ◌++◌}
-use mathlib.Core.Option.{Option}
+use Rattle.std.specs.Prelude.{Option}
 use mathlib.Core.Path.{◌≡◌, ap}
 use native.Mathlib.Omega.{arith}
+use Rattle.std.specs.Prelude.{Ok}
 use lib.ListN.{length, length-append}
 use Rattle.packing.specs.declared.message.Event.{Event}
 use Rattle.packing.specs.Room.{report_at, read_back}
@@ -37,7 +38,7 @@ module _ (number : ℕ) (s : Series) (event : Option Event) (room : List ℕ) (c
   pub all-whys : why_lines number s event 0 (read_back count room) ≡ whys_from 0
   all-whys = ap (why_lines number s event 0) (all-places room count)
 
-  pub next-why : (k : ℕ) → k < count → whys_from k ≡ why_line number k (why_of s event (report_at room k)) ++ whys_from (k + 1)
+  pub next-why : (k : ℕ) → k < count → whys_from k ≡ why_line number k (Ok (why_of s event (report_at room k))) ++ whys_from (k + 1)
   next-why k h = ap (why_lines number s event k) (next_place room count k h)
 
   pub no-why : (k : ℕ) → count ≤ k → whys_from k ≡ []

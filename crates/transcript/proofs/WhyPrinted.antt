@@ -2,9 +2,10 @@
 -- Assumes nothing.
 use Prim.Native.Nat.{ℕ, zero, suc, ◌+◌, ◌<◌}
 use mathlib.Core.List.{List, [], ◌++◌}
-use mathlib.Core.Option.{Option}
+use Rattle.std.specs.Prelude.{Option}
 use mathlib.Core.Path.{◌≡◌, refl, sym, ap, ◌∙◌}
 use native.Mathlib.Omega.{arith}
+use Rattle.std.specs.Prelude.{Ok}
 use Rattle.packing.specs.declared.message.Event.{Event}
 use Rattle.packing.specs.Codec.{unpack_of}
 use Rattle.packing.specs.Message.{messages}
@@ -37,12 +38,12 @@ module _ (number : ℕ) (s : Series) (message room : List ℕ) (free : (handled 
   left = whys_from number s (unpack_of messages message) after.room count
 
   -- below the count the tool tells what the line says
-  told-at-place : (place : ℕ) → place < count → (explained s message place room).why ≡ why_of s (unpack_of messages message) (report_at after.room place)
+  told-at-place : (place : ℕ) → place < count → (explained s message place room).why ≡ Ok (why_of s (unpack_of messages message) (report_at after.room place))
   unfolding handled
   told-at-place place more =
       let x = heard-of s (unpack_of messages message) room free in
       ap (λ (y : Explained). y.why) (told_of s message room place x.message x.read free more)
-      ∙ ap (λ (o : Option Event). why_of s o (report_at after.room place)) (sym x.read)
+      ∙ ap (λ (o : Option Event). Ok (why_of s o (report_at after.room place))) (sym x.read)
 
   from_place : (more place : ℕ) → place + more ≡ count → left place ≡ told_lines number s message room place more
   from_place zero place h = no-why number s (unpack_of messages message) after.room count place (omega (arith, h))

@@ -1,6 +1,8 @@
 -- Telling what is held of an input, as far as there is room for its lines.
 -- No rule of document 01 stands here, only words for contracts.
-use Rattle.std.specs.Prelude.{ℕ, zero, suc, ◌+◌, ◌-◌, ◌≤◌, min, Bool, cond, ◌&&◌, List, [], ◌++◌, ◌≡◌, leb, ltb, length}
+use Rattle.std.specs.Prelude.{ℕ, zero, suc, ◌+◌, ◌-◌, ◌≤◌, min, Bool, cond, ◌&&◌, List, [], ◌++◌, ◌≡◌, leb, ltb, length, Result, Ok, Err}
+use Rattle.kinds.specs.declared.refusal.Refusal.{Refusal}
+use Rattle.kinds.specs.Refusals.{number_of}
 use Rattle.packing.specs.Setup.{setup_size}
 use Rattle.packing.specs.Message.{message_size, message_at}
 use Rattle.series.specs.declared.Series.{Series}
@@ -17,11 +19,15 @@ use Rattle.transcript.specs.Transcript.{answered, message_text, setup_in, setup_
 abbrev pub setup_printed : List ℕ → List ℕ → ℕ × List ℕ
 setup_printed held out = printed out 0 1 (setup_text (setup_in held))
 
+-- the number to print for a refusal, 0 for none
+abbrev pub refusal_told : Result Series Refusal → ℕ
+refusal_told (Ok s) = 0
+refusal_told (Err why) = number_of why
+
 -- WHAT IS HELD, BEGUN: the series or the refusal, where the first message stands, and how much was printed
 abbrev pub begun : List ℕ → List ℕ → Begun
 begun held out = record {
-  refusal = (opened (setup_in held)).refusal;
-  series = (opened (setup_in held)).series;
+  series = opened (setup_in held);
   at = min (length held) setup_size;
   used = (setup_printed held out).0;
 }

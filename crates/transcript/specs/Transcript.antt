@@ -1,7 +1,7 @@
 -- WHAT THE SESSION PROGRAM PRINTS for a whole input: document 01, "Class examples".
 -- Assumes nothing.
 use Rattle.std.specs.Prelude.{ℕ, zero, suc, ◌+◌, List, [], ◌∷◌, ◌++◌, length, take, drop, replicate}
-use Rattle.std.proofs.Math.Option.{Option, none, some}
+use Rattle.std.specs.Prelude.{Option, None, Some}
 use Rattle.packing.specs.declared.message.Event.{Event}
 use Rattle.packing.specs.declared.setup.Setup.{Setup}
 use Rattle.packing.specs.Codec.{nothing, unpack_of}
@@ -65,13 +65,13 @@ abbrev pub setup_in : List ℕ → Option Setup
 setup_in input = unpack_of setups (take setup_size input)
 
 abbrev pub setup_text : Option Setup → List ℕ
-setup_text none = refusal_line 0 nothing
-setup_text (some s) = []
+setup_text None = refusal_line 0 nothing
+setup_text (Some s) = []
 
 -- "and ends"; the messages behind any other are numbered from 1
 abbrev pub printed_for : View → Option Setup → List ℕ → List ℕ
-printed_for view none bytes = setup_text none
-printed_for view (some setup) bytes = lines_from view 1 (new_series setup) bytes
+printed_for view None bytes = setup_text None
+printed_for view (Some setup) bytes = lines_from view 1 (new_series setup) bytes
 
 -- THE WHOLE: "The session program reads setup, then messages, from standard input."
 unfoldable pub transcript : View → List ℕ → List ℕ

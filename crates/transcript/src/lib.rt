@@ -6,19 +6,21 @@ mod why_lines;
 ghost use Rattle.std.specs.Prelude.{◌≡◌, length, ◌+◌, ◌≤◌, ◌<◌, min};
 ghost use Rattle.std.proofs.lemmas.List.Edits.{sets};
 ghost use Rattle.io.specs.Counts.{IsPrefixLen};
-ghost use Rattle.packing.specs.Room.{room_size};
-ghost use Rattle.packing.specs.Message.{message_size, event_in};
-ghost use Rattle.handler.specs.Handle.{in_room};
+ghost use Rattle.packing.specs.Room.{room_size, most_reports};
+ghost use Rattle.packing.specs.Message.{message_size};
+ghost use Rattle.handler.specs.Handle.{answer_of, in_room};
+ghost use Rattle.lines.specs.Lines.{answer_text};
 ghost use Rattle.lines.specs.Buffer.{TextPut, longest_answer};
 ghost use Rattle.transcript.specs.WhyLines.{Answers};
 ghost use Rattle.transcript.specs.Transcript.{text_of};
-ghost use Rattle.transcript.specs.Held.{setup_printed, begun, most_messages, holds_next, goes_on, Turned, held_told, told_by};
+ghost use Rattle.transcript.specs.Held.{setup_printed, refusal_told, begun, most_messages, holds_next, goes_on, Turned, held_told, told_by};
 
 use board::board_lines;
 use handler::Answer;
 use handler::handle::handle_read;
+use kinds::refusal::Refusal;
 use lines::line::{LONGEST_ANSWER, answer_lines};
-use packing::message::{SIZE as MESSAGE, Unpacked, unpack_at};
+use packing::message::{Event, SIZE as MESSAGE, unpack_at};
 use packing::report::SIZE as REPORT;
 use packing::room::ROOM;
 use packing::setup::SIZE as SETUP;
@@ -37,11 +39,10 @@ pub enum View {
     Why,
 }
 
-// What a setup gave: the refusal or the series, where the first message stands, and how much was printed.
+// What a setup gave: the series or the refusal, where the first message stands, and how much was printed.
 #[derive(Clone, Copy)]
 pub struct Begun {
-    pub refusal: u32,
-    pub series: Series,
+    pub series: Result<Series, Refusal>,
     pub at: usize,
     pub used: usize,
 }
@@ -55,10 +56,14 @@ pub struct Told {
     pub used: usize,
 }
 
-fn least(a: usize, b: usize) -> usize
-    ensures { result ≡ min a b }
+// The number to print for a setup's refusal, 0 for none.
+fn refusal_told(made: Result<Series, Refusal>) -> u32
+    ensures { result ≡ refusal_told made }
 {
-    if a < b { a } else { b }
+    match made {
+        Ok(_) => 0,
+        Err(why) => u32::from(why),
+    }
 }
 
 // "a refused setup prints `0 refused 1`"; any other prints nothing.
@@ -68,26 +73,19 @@ pub fn tell_setup(held: &[u8], out: &mut [u8]) -> Begun
     ensures at_in_bounds { (result.at ≤ length held.now) × IsPrefixLen result.used out.new }
 {
     let room = [0u8; REPORT];
-    let at = least(held.len(), SETUP);
-    let made = open_series(&held[..at]);
-    let used = answer_lines(out, 0, 0, made.refusal, 0, &room);
-    let series = made.series;
-    Begun {
-        refusal: made.refusal,
-        series,
-        at,
-        used,
-    }
+    let at = held.len().min(SETUP);
+    let series = open_series(&held[..at]);
+    let why = refusal_told(series);
+    let used = answer_lines(out, 0, 0, why, 0, &room);
+    Begun { series, at, used }
 }
 
 // Whether so many bytes hold a message that can be answered now: a short one only where the input has ended.
 fn is_held(ended: bool, left: usize) -> bool
     ensures { result ≡ holds_next ended left }
 {
-    if ended {
-        return 1 <= left;
-    }
-    MESSAGE <= left
+    let needed = if ended { 1 } else { MESSAGE };
+    needed <= left
 }
 
 // Whether a message is held, with room behind `used` for the longest answer, and has a number.
@@ -95,7 +93,7 @@ fn is_next(ended: bool, left: usize, size: usize, used: usize, number: u64) -> b
     requires { used ≤ size }
     ensures { result ≡ goes_on ended left size used number }
 {
-    is_held(ended, left) & ((LONGEST_ANSWER <= size - used) & (number < MOST_MESSAGES))
+    is_held(ended, left) && LONGEST_ANSWER <= size - used && number < MOST_MESSAGES
 }
 
 // Where the message behind the one at `at` stands; the end, behind a short one.
@@ -109,34 +107,48 @@ fn place_behind(at: usize, long: usize) -> usize
     at + MESSAGE
 }
 
+// The lines of a message's reports, or of its refusal.
+fn tell_reports(told: Told, answer: Result<Answer, Refusal>, room: &[u8], out: &mut [u8]) -> usize
+    requires { ((answer_of told.series answer).count ≤ most_reports) × (told.used + longest_answer ≤ length out.old) }
+    ensures text_put { TextPut out.old told.used
+        (answer_text told.number (answer_of told.series answer).refusal (answer_of told.series answer).count room.now) out.new result }
+    ensures upper_bound { result ≤ length out.new }
+{
+    match answer {
+        Ok(answer) => answer_lines(out, told.used, told.number, 0, answer.count, room),
+        Err(why) => answer_lines(out, told.used, told.number, u32::from(why), 0, room),
+    }
+}
+
+// The series that a message leaves: as it was, where that is refused.
+fn series_left(before: Series, answer: Result<Answer, Refusal>) -> Series
+    ensures { result ≡ (answer_of before answer).series }
+{
+    match answer {
+        Ok(answer) => answer.series,
+        Err(_) => before,
+    }
+}
+
 // What a view tells of a message's answer, with its reports in the room: its lines from `used` on. The message was put to the series of
 // before, which `told` still has.
 fn tell_answer(
     view: View,
     told: Told,
-    read: Unpacked,
-    answer: Answer,
+    read: Option<Event>,
+    answer: Result<Answer, Refusal>,
     room: &[u8],
     out: &mut [u8],
 ) -> usize
-    requires { Answers told.series (event_in read) answer × (told.used + longest_answer ≤ length out.old) }
-    ensures text_put { TextPut out.old told.used (text_of view told.number told.series (event_in read) (in_room answer room.now))
-        out.new result }
+    requires { Answers told.series read (answer_of told.series answer) × (told.used + longest_answer ≤ length out.old) }
+    ensures text_put { TextPut out.old told.used
+        (text_of view told.number told.series read (in_room (answer_of told.series answer) room.now)) out.new result }
     ensures upper_bound { result ≤ length out.new }
 {
     match view {
-        View::Reports => {
-            answer_lines(
-                out,
-                told.used,
-                told.number,
-                answer.refusal,
-                answer.count,
-                room,
-            )
-        }
+        View::Reports => tell_reports(told, answer, room, out),
         View::Book => {
-            let series = answer.series;
+            let series = series_left(told.series, answer);
             board_lines(out, told.used, told.number, series.book)
         }
         View::Why => why_lines(out, told.used, told.number, told.series, read, answer, room),
@@ -152,7 +164,7 @@ fn tell_next(view: View, told: Told, held: &[u8], room: &mut [u8], out: &mut [u8
     let read = unpack_at(held, told.at);
     let answer = handle_read(told.series, read, room);
     let used = tell_answer(view, told, read, answer, room, out);
-    let series = answer.series;
+    let series = series_left(told.series, answer);
     Told {
         series,
         number: told.number + 1,

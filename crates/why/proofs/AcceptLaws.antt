@@ -1,10 +1,10 @@
 -- What is known of a message that nothing refuses.
 -- Assumes nothing.
 use Prim.Native.Nat.{ℕ, zero, suc, ◌≤◌}
-use mathlib.Core.Path.{◌≡◌, refl, sym, subst, ◌∙◌}
+use mathlib.Core.Path.{◌≡◌, refl, sym, subst}
 use mathlib.Core.Bool.{Bool, true, false, cond}
 use mathlib.Core.List.{List}
-use mathlib.Core.Option.{Option, none, some}
+use Rattle.std.specs.Prelude.{Option, None, Some}
 use native.Mathlib.Omega.{arith}
 use lib.Dec.{eqb}
 use lib.ListN.{length}
@@ -41,7 +41,7 @@ use Rattle.why.specs.Why.{FacedIn, found_tests, left_tests}
 -- it unpacks to an event that the series accepts, and is answered so
 pub record Heard (s : Series) (event : Option Event) (room : List ℕ) : Type 0 where
   pub message : Event
-  pub read : event ≡ some message
+  pub read : event ≡ Some message
   pub space : room_size ≤ length room
   pub accepts : Accepted s (ask_of message)
   pub answer : handled_as s event room ≡ accepted s (ask_of message) room
@@ -50,7 +50,7 @@ pub heard-of : (s : Series) (event : Option Event) (room : List ℕ) → (handle
 unfolding handled_as
 heard-of s event room h = by (before_reading (length room) (sound_series s)) refl event refl h
   where
-    judge : (room_size ≤ length room) × (sound_series s ≡ true) → before_reading (length room) (sound_series s) ≡ 0 → (e : Event) → event ≡ some e
+    judge : (room_size ≤ length room) × (sound_series s ≡ true) → before_reading (length room) (sound_series s) ≡ 0 → (e : Event) → event ≡ Some e
         → (b : Bool) → eqb (refusal_of s (ask_of e)) 0 ≡ b
         → (cond b (accepted s (ask_of e) room) (refused (refusal_of s (ask_of e)) s room)).answer.refusal ≡ 0 → Heard s event room
     judge g z e r true q k =
@@ -65,20 +65,19 @@ heard-of s event room h = by (before_reading (length room) (sound_series s)) ref
 
     by : (n : ℕ) → before_reading (length room) (sound_series s) ≡ n → (u : Option Event) → event ≡ u
         → (refused_or n s room (heard s room u)).answer.refusal ≡ 0 → Heard s event room
-    by zero z none r k = absurd (omega arith)
-    by zero z (some e) r k = judge (none-early (length room) (sound_series s) z) z e r (eqb (refusal_of s (ask_of e)) 0) refl k
+    by zero z None r k = absurd (omega arith)
+    by zero z (Some e) r k = judge (none-early (length room) (sound_series s) z) z e r (eqb (refusal_of s (ask_of e)) 0) refl k
     by (suc n) z u r k = absurd (omega (arith, rw (ne_eqb (suc n) 0 (λ w. omega (arith, w))) at k))
 
 -- ---- what it enters ----
 
 -- what the test of the series has seen is what an entry faces
-pub faced-in : (s : Series) (e : Entry) {check : Check} → Tested s check → sound_series s ≡ true → (f : Facing) → f ≡ facing_by check s.terms e.sell
-    → FacedIn s e f
-faced-in s e {check} tested sound f is =
-    let ok : check.ok ≡ true = tested.verdict ∙ sound in
-    let seen = (tested.checked ok).summary ok in
+pub faced-in : (s : Series) (e : Entry) {check : Check} → Tested s (Some check) → (f : Facing) → f ≡ facing_by check s.terms e.sell → FacedIn s e f
+faced-in s e {check} tested f is =
+    let k = tested.checked refl in
+    let seen = k.summary check refl in
     record {
-      well = (tested.checked ok).well ok;
+      well = k.well refl;
       faces = subst (Faces s.terms e (entries_of s.book)) (sym is) (record {
         contra = faced-contra seen e.sell;
         national = shown-national seen e.sell (away (market_of s.terms) e.sell);

@@ -5,12 +5,13 @@ use Prim.Native.Nat.{ℕ, ◌*◌, ◌≤◌, ◌<◌}
 use mathlib.Core.Path.{◌≡◌, refl, sym, ap, ap₂, subst, ◌∙◌}
 use mathlib.Core.Bool.{Bool, true, false, cond, not}
 use mathlib.Core.List.{List}
-use mathlib.Core.Option.{Option, none, some}
+use Rattle.std.specs.Prelude.{Option, None, Some}
 use native.Mathlib.Omega.{arith}
-use lib.Dec.{eqb, leb}
+use lib.Dec.{eqb, leb, ltb}
 use lib.ListN.{length, take}
 use lib.Seq.{sets, take_at}
-use borrow.Author.Tests.{eqb-true, eqb-false, ne_eqb, leb-false, lt-leb, le-ltb, lt-ltb}
+use borrow.Author.Tests.{eq-eqb, ne_eqb, lt-leb, le-ltb}
+use Rattle.std.specs.Prelude.{Ok, Err}
 use Rattle.packing.specs.declared.message.Event.{Event}
 use Rattle.packing.specs.declared.report.Report.{Report}
 use Rattle.packing.specs.Room.{packed_all, written, report_at, room_size}
@@ -18,15 +19,13 @@ use Rattle.packing.proofs.RoomLaws.{length-written, written-parts, length-packed
 use Rattle.book.specs.Shape.{entries_of}
 use Rattle.series.specs.declared.Series.{Series}
 use Rattle.series.specs.Series.{sound_series}
-use Rattle.handler.specs.declared.Answer.{Answer}
 use Rattle.handler.specs.Asked.{ask_of}
 use Rattle.handler.specs.Acts.{Accepted}
 use Rattle.handler.specs.Refuse.{refusal_of}
 use Rattle.handler.specs.Accept.{done}
-use Rattle.handler.specs.Handle.{Handled, first_of, in_room, refused, refused_or, accepted, heard, handled_as}
+use Rattle.handler.specs.Handle.{Answered, Handled, first_of, in_room, refused, refused_or, accepted, heard, handled_as}
 use Rattle.handler.proofs.Accepted.{done-part}
-use Rattle.why.specs.declared.Why.{Why}
-use Rattle.why.specs.declared.Why.TheVariants.{Refused}
+use Rattle.why.specs.Reasons.{Why}
 use Rattle.why.specs.Why.{why_of, in_lent, refusal_at, explained_as}
 use Rattle.why.proofs.AcceptLaws.{Heard, heard-of}
 
@@ -34,8 +33,8 @@ use Rattle.why.proofs.AcceptLaws.{Heard, heard-of}
 
 module _ (s : Series) (a b : List ℕ) where
   heard-same : (event : Option Event) → (heard s a event).answer ≡ (heard s b event).answer
-  heard-same none = refl
-  heard-same (some e) = by (eqb (refusal_of s (ask_of e)) 0)
+  heard-same None = refl
+  heard-same (Some e) = by (eqb (refusal_of s (ask_of e)) 0)
     where
       by : (z : Bool) → (cond z (accepted s (ask_of e) a) (refused (refusal_of s (ask_of e)) s a)).answer
           ≡ (cond z (accepted s (ask_of e) b) (refused (refusal_of s (ask_of e)) s b)).answer
@@ -67,53 +66,47 @@ stored-front room held rs n is fits =
 -- ---- what is told ----
 
 abbrev IsNone : Option Event → Type 0
-IsNone none = Unit {0}
-IsNone (some e) = ⊥
+IsNone None = Unit {0}
+IsNone (Some e) = ⊥
 
 -- 10 comes first
-pub explains-10 : (s : Series) (event : Option Event) (place : ℕ) (room : List ℕ) → length room < room_size
-    → in_lent (Refused 10) room ≡ explained_as s event place room
+pub explains-10 : (s : Series) (event : Option Event) (place : ℕ) (room : List ℕ) → ltb (length room) room_size ≡ true
+    → in_lent (Err 10) room ≡ explained_as s event place room
 unfolding explained_as handled_as
-explains-10 s event place room h = rw (lt-ltb (length room) room_size h) refl
+explains-10 s event place room h = rw h refl
 
 module _ (s : Series) (event : Option Event) (place : ℕ) (room held : List ℕ) (space : room_size ≤ length room) (other : room_size ≤ length held)
-    (r : Answer) (after : List ℕ) (is : in_room r after ≡ handled_as s event held) where
+    (r : Answered) (after : List ℕ) (is : in_room r after ≡ handled_as s event held) where
   answer-is : r ≡ (handled_as s event room).answer
   answer-is = ap (λ (h : Handled). h.answer) is ∙ same_answer s held room event other space
 
-  module _ (why : ℕ) (number : why ≡ refusal_at r place) where
-    number_is : why ≡ refusal_at (handled_as s event room).answer place
-    number_is = number ∙ ap (λ (x : Answer). refusal_at x place) answer-is
+  refuses : (why : ℕ) → why ≡ refusal_at r place → (why ≡ 0 → ⊥) → in_lent (Err why) room ≡ explained_as s event place room
+  unfolding explained_as
+  refuses why number h =
+      let number_is : why ≡ refusal_at (handled_as s event room).answer place = number ∙ ap (λ (x : Answered). refusal_at x place) answer-is in
+      ap (λ (n : ℕ). in_lent (Err n) room) number_is
+      ∙ sym (rw (ne_eqb (refusal_at (handled_as s event room).answer place) 0 (λ z. h (number_is ∙ z))) refl)
 
-    pub explains-refused : (why ≡ 0 → ⊥) → in_lent (Refused why) room ≡ explained_as s event place room
-    unfolding explained_as
-    explains-refused h =
-        ap (λ (n : ℕ). in_lent (Refused n) room) number_is
-        ∙ sym (rw (ne_eqb (refusal_at (handled_as s event room).answer place) 0 (λ z. h (number_is ∙ z))) refl)
+  -- the message's own refusal, and then a place at or beyond the count
+  pub explains-own : (r.refusal ≡ 0 → ⊥) → in_lent (Err r.refusal) room ≡ explained_as s event place room
+  explains-own h = refuses r.refusal (sym (ap (λ (b : Bool). first_of (not b) r.refusal (leb r.count place) 12) (ne_eqb r.refusal 0 h))) h
 
-    -- no refusal of its own, and a place below the count
-    pub nothing-refused : why ≡ 0 → (r.refusal ≡ 0) × (place < r.count)
-    nothing-refused h = by (eqb r.refusal 0) refl (leb r.count place) refl (sym number ∙ h)
-      where
-        by : (own : Bool) → eqb r.refusal 0 ≡ own → (past : Bool) → leb r.count place ≡ past → first_of (not own) r.refusal past 12 ≡ 0
-            → (r.refusal ≡ 0) × (place < r.count)
-        by false p past q k = absurd (eqb-false r.refusal 0 p k)
-        by true p true q k = absurd (let z : ◌≡◌ {A = ℕ} 12 0 = k in omega arith)
-        by true p false q k = (eqb-true r.refusal 0 p, leb-false r.count place q)
+  pub explains-12 : r.refusal ≡ 0 → leb r.count place ≡ true → in_lent (Err 12) room ≡ explained_as s event place room
+  explains-12 z past = refuses 12 (sym (rw (eq-eqb r.refusal 0 z, past) refl)) (λ k. absurd (let n : ◌≡◌ {A = ℕ} 12 0 = k in omega arith))
 
   module _ (zero : r.refusal ≡ 0) where
     refusal-none : (handled_as s event room).answer.refusal ≡ 0
-    refusal-none = sym (ap (λ (x : Answer). x.refusal) answer-is) ∙ zero
+    refusal-none = sym (ap (λ (x : Answered). x.refusal) answer-is) ∙ zero
 
     pub hears : Heard s event room
     hears = heard-of s event room refusal-none
 
-    pub read_some : event ≡ none → ⊥
+    pub read_some : event ≡ None → ⊥
     read_some h = subst IsNone (sym h ∙ hears.read) tt
 
-    module _ (e : Event) (read : event ≡ some e) where
+    module _ (e : Event) (read : event ≡ Some e) where
       same-message : hears.message ≡ e
-      same-message = let z : some hears.message ≡ some e = sym hears.read ∙ read in cc
+      same-message = let z : Some hears.message ≡ Some e = sym hears.read ∙ read in cc
 
       pub accepts-event : Accepted s (ask_of e)
       accepts-event = subst (λ (x : Event). Accepted s (ask_of x)) same-message hears.accepts
@@ -125,15 +118,15 @@ module _ (s : Series) (event : Option Event) (place : ℕ) (room held : List ℕ
       answer-accepted = hears.answer ∙ ap (λ (x : Event). accepted s (ask_of x) room) same-message
 
       counts : r.count ≡ length reports
-      counts = ap (λ (x : Answer). x.count) answer-is ∙ ap (λ (h : Handled). h.answer.count) answer-accepted
+      counts = ap (λ (x : Answered). x.count) answer-is ∙ ap (λ (h : Handled). h.answer.count) answer-accepted
 
       few : 14 * length reports ≤ room_size
       few = omega (arith, (done-part s (ask_of e) accepts-event).few)
 
       held-accepted : handled_as s event held ≡ accepted s (ask_of e) held
       held-accepted =
-          let h = heard-of s event held (ap (λ (x : Answer). x.refusal) (same_answer s held room event other space) ∙ refusal-none) in
-          let same : h.message ≡ e = (let z : some h.message ≡ some e = sym h.read ∙ read in cc) in
+          let h = heard-of s event held (ap (λ (x : Answered). x.refusal) (same_answer s held room event other space) ∙ refusal-none) in
+          let same : h.message ≡ e = (let z : Some h.message ≡ Some e = sym h.read ∙ read in cc) in
           h.answer ∙ ap (λ (x : Event). accepted s (ask_of x) held) same
 
       wrote : after ≡ written held 0 reports
@@ -148,9 +141,9 @@ module _ (s : Series) (event : Option Event) (place : ℕ) (room held : List ℕ
           ∙ stored-front room held reports (14 * r.count) (omega (arith, counts)) (omega (arith, counts, few, other))
 
       pub explains-reason : place < r.count → (room' : List ℕ) → room' ≡ sets room 0 (take (14 * r.count) after) → (w : Why)
-          → w ≡ why_of s (some e) (report_at room' place) → in_lent w room' ≡ explained_as s event place room
+          → w ≡ why_of s (Some e) (report_at room' place) → in_lent (Ok w) room' ≡ explained_as s event place room
       unfolding explained_as
       explains-reason more room' copied w why =
           let there : room' ≡ written room 0 reports = copied ∙ room_after in
-          ap₂ in_lent (why ∙ ap (λ (l : List ℕ). why_of s (some e) (report_at l place)) there) there
+          ap₂ in_lent (ap Ok (why ∙ ap (λ (l : List ℕ). why_of s (Some e) (report_at l place)) there)) there
           ∙ sym (rw (answer-accepted, read, lt-leb (length reports) place (omega (arith, more, counts))) refl)

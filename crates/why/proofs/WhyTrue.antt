@@ -5,8 +5,9 @@ use Prim.Native.Nat.{ℕ, zero, suc, ◌+◌, ◌*◌, ◌≤◌, ◌<◌}
 use mathlib.Core.Path.{◌≡◌, refl, sym, ap, subst, ◌∙◌}
 use mathlib.Core.Bool.{true}
 use mathlib.Core.List.{List, []}
-use mathlib.Core.Option.{Option, none, some}
+use Rattle.std.specs.Prelude.{Option, None, Some}
 use native.Mathlib.Omega.{arith}
+use Rattle.std.specs.Prelude.{Ok, Err}
 use lib.ListN.{take, drop}
 use lib.Seq.{drop-drop}
 use borrow.Author.Tests.{eq-eqb, ne_eqb, le-leb, lt-leb}
@@ -40,8 +41,7 @@ use Rattle.handler.specs.Acts.{Accepted}
 use Rattle.handler.proofs.Passed.{accepted-as, accepted-arriving}
 use Rattle.handler.proofs.OwnPart.{own-tells}
 use Rattle.handler.proofs.Demands.{own_of, settling_of, settling-says, OfReport, reports-hold}
-use Rattle.why.specs.declared.Why.{Why}
-use Rattle.why.specs.declared.Why.TheVariants.{NoReason, Refused}
+use Rattle.why.specs.Reasons.{Why}
 use Rattle.why.specs.Why.{found_tests, left_tests, given, reason_for, why_of, Explained, in_lent, explained_as, explained}
 
 -- ---- what is claimed ----
@@ -63,11 +63,11 @@ pub record TrueCancel (s : Series) (a : Ask) (number why : ℕ) (w : Why) : Type
 
 -- WHAT IS TOLD OF EACH REPORT: of a rejection 20 to 26, told in the book that the message found
 abbrev pub TrueOf : Series → Ask → Report → Why → Type 0
-TrueOf s a Noted w = w ≡ NoReason
+TrueOf s a Noted w = w ≡ None
 TrueOf s a (Rejected why sell party number limit quantity) w = (number ≡ (comer_of s a).number) × ((why ≤ 26) × TrueRule s a (entries_of s.book) why w)
-TrueOf s a (Traded sell party number other price quantity) w = w ≡ NoReason
-TrueOf s a (Rested sell party number display working quantity) w = w ≡ NoReason
-TrueOf s a (Repriced sell party number display working quantity) w = w ≡ NoReason
+TrueOf s a (Traded sell party number other price quantity) w = w ≡ None
+TrueOf s a (Rested sell party number display working quantity) w = w ≡ None
+TrueOf s a (Repriced sell party number display working quantity) w = w ≡ None
 TrueOf s a (Cancelled why sell party number limit quantity) w = TrueCancel s a number why w
 
 -- ---- of each report of the definition ----
@@ -100,11 +100,11 @@ module _ (s : Series) (a : Ask) (ok : Accepted s a) where
   arrival-true : enters a.kind ≡ true → All Holds (arrived s.terms (comer_of s a) (entries_of s.book)).records
   arrival-true k =
       arrived-says-why s.terms (comer_of s a) (entries_of s.book) Holds (record {
-        rejects = λ q why some h. (
+        rejects = λ q why given h. (
           refl,
           (
             omega (arith, h, (rejection-among s.terms (comer_of s a) (entries_of s.book)).most),
-            told-true k (entries_of s.book) why (rejection-told (accepted-arriving s a ok k) why some h) (found_tests s a) (rw k refl),
+            told-true k (entries_of s.book) why (rejection-told (accepted-arriving s a ok k) why given h) (found_tests s a) (rw k refl),
           ),
         );
         cancels = λ q why own side x o w. no-price x.number why own;
@@ -147,13 +147,15 @@ read_at (suc n) room (suc at) h P a =
 pub record WhyTrue (s : Series) (a : Ask) (place : ℕ) (h : Handled) (x : Explained) : Type 0 where
   pub same-room : x.room ≡ h.room
   pub report : Report
-  pub there : report_at h.room place ≡ some report
-  pub true-of-it : TrueOf s a report x.why
+  pub there : report_at h.room place ≡ Some report
+  pub reason : Why
+  pub told : x.why ≡ Ok reason
+  pub true-of-it : TrueOf s a report reason
 
 -- what is told where nothing is refused
-pub told_of : (s : Series) (message room : List ℕ) (place : ℕ) (e : Event) → unpack_of messages message ≡ some e → (handled s message room).answer.refusal ≡ 0
+pub told_of : (s : Series) (message room : List ℕ) (place : ℕ) (e : Event) → unpack_of messages message ≡ Some e → (handled s message room).answer.refusal ≡ 0
     → place < (handled s message room).answer.count
-    → explained s message place room ≡ in_lent (why_of s (some e) (report_at (handled s message room).room place)) (handled s message room).room
+    → explained s message place room ≡ in_lent (Ok (why_of s (Some e) (report_at (handled s message room).room place))) (handled s message room).room
 unfolding explained explained_as handled
 told_of s message room place e read free more =
     rw (
@@ -162,7 +164,7 @@ told_of s message room place e read free more =
       read,
     ) refl
 
-pub why-true : (s : Series) (message room : List ℕ) (place : ℕ) (e : Event) → unpack_of messages message ≡ some e → (handled s message room).answer.refusal ≡ 0
+pub why-true : (s : Series) (message room : List ℕ) (place : ℕ) (e : Event) → unpack_of messages message ≡ Some e → (handled s message room).answer.refusal ≡ 0
     → place < (handled s message room).answer.count → WhyTrue s (ask_of e) place (handled s message room) (explained s message place room)
 why-true s message room place e read free more =
     subst (WhyTrue s (ask_of e) place (handled s message room)) (sym (told_of s message room place e read free more))
@@ -175,21 +177,29 @@ why-true s message room place e read free more =
 
     by : (o : Option Report) → report_at (handled s message room).room place ≡ o → OfReport Said o
         → WhyTrue s (ask_of e) place (handled s message room)
-        (in_lent (why_of s (some e) (report_at (handled s message room).room place)) (handled s message room).room)
-    by none q h = absurd h
-    by (some r) q h = record { same-room = refl; report = r; there = q; true-of-it = subst (TrueOf s (ask_of e) r) (sym (ap (why_of s (some e)) q)) h }
+        (in_lent (Ok (why_of s (Some e) (report_at (handled s message room).room place))) (handled s message room).room)
+    by None q h = absurd h
+    by (Some r) q h =
+        record {
+          same-room = refl;
+          report = r;
+          there = q;
+          reason = reason_for s (ask_of e) r;
+          told = ap (λ (x : Option Report). Ok (why_of s (Some e) x)) q;
+          true-of-it = h;
+        }
 
 -- ---- "Refusals: 12, place at or beyond the count, tested after the message's own refusals" ----
 
 -- the message's own come first, and the room is as it stood
 pub why-refused : (s : Series) (message room : List ℕ) (place : ℕ) → ((handled s message room).answer.refusal ≡ 0 → ⊥)
-    → explained s message place room ≡ in_lent (Refused (handled s message room).answer.refusal) room
+    → explained s message place room ≡ in_lent (Err (handled s message room).answer.refusal) room
 unfolding explained explained_as handled
 why-refused s message room place h = rw (ne_eqb (handled s message room).answer.refusal 0 h, ne_eqb (handled s message room).answer.refusal 0 h) refl
 
 -- and then 12
 pub why-12 : (s : Series) (message room : List ℕ) (place : ℕ) → (handled s message room).answer.refusal ≡ 0 → (handled s message room).answer.count ≤ place
-    → explained s message place room ≡ in_lent (Refused 12) room
+    → explained s message place room ≡ in_lent (Err 12) room
 unfolding explained explained_as handled
 why-12 s message room place free past =
     rw (eq-eqb (handled s message room).answer.refusal 0 free, le-leb (handled s message room).answer.count place past) refl

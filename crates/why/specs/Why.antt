@@ -1,10 +1,11 @@
 -- WHY: document 02, 1. "Add a tool that takes the state before, the message and one report's place, and gives the rule's number with the two figures compared".
 -- Assumes nothing.
-use Rattle.std.specs.Prelude.{ℕ, cond, not, List, [], eqb, leb}
-use Rattle.std.proofs.Math.Option.{Option, none, some}
+use Rattle.std.specs.Prelude.{ℕ, cond, not, List, [], eqb, leb, Result, Ok, Err, Option, Some, None}
 use Rattle.prices.specs.declared.Figures.{Figures}
 use Rattle.prices.specs.Test.{Test, figures_of}
 use Rattle.kinds.specs.Kinds.{enters}
+use Rattle.kinds.specs.declared.refusal.Refusal.{Refusal}
+use Rattle.kinds.specs.Refusals.{number_of}
 use Rattle.packing.specs.declared.message.Event.{Event}
 use Rattle.packing.specs.declared.report.Report.{Report}
 use Rattle.packing.specs.declared.report.Report.TheVariants.{Noted, Rejected, Traded, Rested, Repriced, Cancelled}
@@ -20,10 +21,8 @@ use Rattle.series.specs.declared.Series.{Series}
 use Rattle.handler.specs.declared.Ask.{Ask}
 use Rattle.handler.specs.Asked.{ask_of}
 use Rattle.handler.specs.Accept.{comer_of}
-use Rattle.handler.specs.declared.Answer.{Answer}
-use Rattle.handler.specs.Handle.{Handled, first_of, handled_as}
-use Rattle.why.specs.declared.Why.{Why}
-use Rattle.why.specs.declared.Why.TheVariants.{Given, NoReason, Refused}
+use Rattle.handler.specs.Handle.{Answered, Handled, first_of, handled_as}
+use Rattle.why.specs.Reasons.{Why}
 
 -- ---- what is told, in numbers ----
 
@@ -35,10 +34,15 @@ pub record Numbers : Type 0 where
   pub second : ℕ
 
 -- the numbers of each case
-abbrev pub numbers_of : Why → Numbers
-numbers_of (Given r) = record { refusal = 0; rule = r.rule; first = r.first; second = r.second }
-numbers_of NoReason = record { refusal = 0; rule = 0; first = 0; second = 0 }
-numbers_of (Refused why) = record { refusal = why; rule = 0; first = 0; second = 0 }
+abbrev pub numbers_of : Result Why ℕ → Numbers
+numbers_of (Ok (Some r)) = record { refusal = 0; rule = r.rule; first = r.first; second = r.second }
+numbers_of (Ok None) = record { refusal = 0; rule = 0; first = 0; second = 0 }
+numbers_of (Err why) = record { refusal = why; rule = 0; first = 0; second = 0 }
+
+-- what is told, with a refusal by its number
+abbrev pub told : Result Why Refusal → Result Why ℕ
+told (Ok reason) = Ok reason
+told (Err why) = Err (number_of why)
 
 -- ---- one report ----
 
@@ -56,46 +60,46 @@ left_tests s a =
 
 -- "the rule's number with the two figures compared"
 abbrev pub given : ℕ → Figures → Why
-given rule f = Given (record { rule = rule; first = f.first; second = f.second })
+given rule f = Some (record { rule = rule; first = f.first; second = f.second })
 
 -- WHY A REPORT OF A MESSAGE SAYS WHAT IT SAYS. "Reasons 27 to 31 compare no prices and give two zeros": no test has their numbers (`figures_of`). "A
--- report that is neither rejected nor cancelled gets 'no reason to give'."
+-- report that is neither rejected nor cancelled gets 'no reason to give'": none.
 abbrev pub reason_for : Series → Ask → Report → Why
-reason_for s a Noted = NoReason
+reason_for s a Noted = None
 reason_for s a (Rejected why sell party number limit quantity) = given why (figures_of why (found_tests s a))
-reason_for s a (Traded sell party number other price quantity) = NoReason
-reason_for s a (Rested sell party number display working quantity) = NoReason
-reason_for s a (Repriced sell party number display working quantity) = NoReason
+reason_for s a (Traded sell party number other price quantity) = None
+reason_for s a (Rested sell party number display working quantity) = None
+reason_for s a (Repriced sell party number display working quantity) = None
 reason_for s a (Cancelled why sell party number limit quantity) = given why (figures_of why (left_tests s a))
 
 -- of what a message and a place of the room unpack to
 abbrev pub why_of : Series → Option Event → Option Report → Why
-why_of s none report = NoReason
-why_of s (some e) none = NoReason
-why_of s (some e) (some r) = reason_for s (ask_of e) r
+why_of s None report = None
+why_of s (Some e) None = None
+why_of s (Some e) (Some r) = reason_for s (ask_of e) r
 
 -- ---- the tool ----
 
 -- what is told, with the lent room as it then is
 pub record Explained : Type 0 where
-  pub why : Why
+  pub why : Result Why ℕ
   pub room : List ℕ
 
-abbrev pub in_lent : Why → List ℕ → Explained
+abbrev pub in_lent : Result Why ℕ → List ℕ → Explained
 in_lent w room = record { why = w; room = room }
 
 -- a refusal leaves the room as it stood
 abbrev pub unexplained : ℕ → List ℕ → Explained
-unexplained why room = in_lent (Refused why) room
+unexplained why room = in_lent (Err why) room
 
 -- "Refusals: 12, place at or beyond the count, tested after the message's own refusals"; 0, if there is none
-abbrev pub refusal_at : Answer → ℕ → ℕ
+abbrev pub refusal_at : Answered → ℕ → ℕ
 refusal_at r place = first_of (not (eqb r.refusal 0)) r.refusal (leb r.count place) 12
 
 -- where nothing is refused the room holds the message's reports
 abbrev pub explained_by : Series → Option Event → ℕ → List ℕ → Handled → Explained
 explained_by s event place room h =
-    cond (eqb (refusal_at h.answer place) 0) (in_lent (why_of s event (report_at h.room place)) h.room) (unexplained (refusal_at h.answer place) room)
+    cond (eqb (refusal_at h.answer place) 0) (in_lent (Ok (why_of s event (report_at h.room place))) h.room) (unexplained (refusal_at h.answer place) room)
 
 -- what is told of what a message unpacks to, for every series, place and room
 unfoldable pub explained_as : Series → Option Event → ℕ → List ℕ → Explained

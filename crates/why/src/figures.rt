@@ -5,7 +5,7 @@ ghost use Rattle.series.specs.Series.{sound_series};
 ghost use Rattle.handler.specs.Acts.{Accepted};
 ghost use Rattle.why.specs.Why.{FacedIn, given, found_tests, left_tests, reason_for};
 
-use crate::{Reason, Why};
+use crate::Reason;
 use arrival::Facing;
 use arrival::arrive::book_left;
 use arrival::reason::figures_for;
@@ -25,7 +25,7 @@ fn facing_in(s: Series, e: Entry) -> Facing
     requires { sound_series s ≡ true }
     ensures { FacedIn s e result }
 {
-    let check = check_series(s);
+    let check = check_series(s).unwrap();
     facing_of(check, s.terms, e.sell)
 }
 
@@ -58,10 +58,10 @@ fn left_figures(s: Series, a: Ask, rule: u32) -> Figures
     figures_for(rule, left, t, e, f)
 }
 
-fn given_with(rule: u32, figures: Figures) -> Why
+fn given_with(rule: u32, figures: Figures) -> Option<Reason>
     ensures { result ≡ given rule figures }
 {
-    Why::Given(Reason {
+    Some(Reason {
         rule,
         first: figures.first,
         second: figures.second,
@@ -69,16 +69,16 @@ fn given_with(rule: u32, figures: Figures) -> Why
 }
 
 // Why a report of a message that is accepted says what it says.
-pub fn reason_of(s: Series, a: Ask, report: Report) -> Why
+pub fn reason_of(s: Series, a: Ask, report: Report) -> Option<Reason>
     requires { Accepted s a }
     ensures { result ≡ reason_for s a report }
 {
     match report {
-        Report::Noted => Why::NoReason,
+        Report::Noted => None,
         Report::Rejected { reason, .. } => given_with(reason, found_figures(s, a, reason)),
-        Report::Traded { .. } => Why::NoReason,
-        Report::Rested { .. } => Why::NoReason,
-        Report::Repriced { .. } => Why::NoReason,
+        Report::Traded { .. } => None,
+        Report::Rested { .. } => None,
+        Report::Repriced { .. } => None,
         Report::Cancelled { reason, .. } => given_with(reason, left_figures(s, a, reason)),
     }
 }

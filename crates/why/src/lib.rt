@@ -11,11 +11,3 @@ pub struct Reason {
     pub first: u32,
     pub second: u32,
 }
-
-// What is told of a report.
-#[derive(Clone, Copy)]
-pub enum Why {
-    Given(Reason),
-    NoReason,
-    Refused(u32),
-}

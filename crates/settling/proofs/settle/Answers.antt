@@ -5,7 +5,7 @@ pub ease-c-requires : goal.ease-c-requires
 ease-c-requires c = settle-eases c.requires
 
 pub stir-requires : goal.stir-requires
-stir-requires c = settle-stirs c.requires c.ease-c.ensures
+stir-requires c = settle-stirs c.requires c.ease-c.ensures.told
 
-pub returns : goal.returns
-returns c = settle-ends c.requires c.ease-c.ensures c.stir.ensures
+pub returns-clause-told : goal.returns-clause-told
+returns-clause-told c = settle-ends c.requires c.ease-c.ensures.told c.stir.ensures.told

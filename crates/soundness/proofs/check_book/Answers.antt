@@ -3,16 +3,13 @@ use Rattle.soundness.proofs.BookLaws.{turned_down, no_step, too_many, leftover, 
 use Rattle.soundness.proofs.check_book.Goals as goal
 
 pub returns-then-b-gt64 : goal.returns-then-b-gt64
-returns-then-b-gt64 c = turned_down (too_many _ _ _ c.if-b-gt64.true) c.broken.ensures
+returns-then-b-gt64 c = turned_down (too_many _ _ _ c.if-b-gt64.true)
 
 pub returns-then-not-is_mpv : goal.returns-then-not-is_mpv
-returns-then-not-is_mpv c = turned_down (no_step _ _ _ (sym c.is_mpv.ensures ∙ c.if-not-is_mpv.true)) c.broken-then-not-is_mpv.ensures
+returns-then-not-is_mpv c = turned_down (no_step _ _ _ (sym c.is_mpv.ensures ∙ c.if-not-is_mpv.true))
 
 pub returns-then-not-is_rest_unused : goal.returns-then-not-is_rest_unused
-returns-then-not-is_rest_unused c =
-    turned_down
-    (leftover _ _ _ (sym c.is_rest_unused.ensures.0 ∙ c.if-not-is_rest_unused.true))
-    c.broken-then-not-is_rest_unused.ensures
+returns-then-not-is_rest_unused c = turned_down (leftover _ _ _ (sym c.is_rest_unused.ensures.0 ∙ c.if-not-is_rest_unused.true))
 
 pub check_resting-requires : goal.check_resting-requires
 check_resting-requires c =

@@ -1,14 +1,12 @@
-use native.Mathlib.Omega.{arith}
+use Rattle.std.proofs.Common.{rules, ◌∙◌}
 use Rattle.test_reading.proofs.NumberLaws.{too_few, four}
 use Rattle.test_reading.proofs.number_at.Goals as goal
 
-pub returns-then-bytes-lt4 : goal.returns-then-bytes-lt4
-returns-then-bytes-lt4 c = too_few c.args.bytes.now c.args.at (omega arith)
+pub returns-in_default : goal.returns-in_default
+returns-in_default c = too_few c.args.bytes.now c.args.at (search rules)
 
-pub returns-then-bytes-at : goal.returns-then-bytes-at
-returns-then-bytes-at c = too_few c.args.bytes.now c.args.at (omega arith)
+pub returns-in_default-2 : goal.returns-in_default-2
+returns-in_default-2 c = too_few c.args.bytes.now c.args.at (search rules)
 
 pub returns : goal.returns
-returns c =
-    four c.args.bytes.now c.args.at (omega arith) _ _ _ _ c.wide.ensures.0 c.wide-2.ensures.0
-    c.wide-3.ensures.0 c.wide-4.ensures.0
+returns c = c.from_be_bytes.ensures ∙ four c.args.bytes.now c.args.at (search rules) c.in-Some-len4-up.field-0.now (search rules) (search rules)

@@ -1,4 +1,4 @@
-use mathlib.Core.Path.{refl}
+use mathlib.Core.Path.{refl, ◌∙◌}
 use Rattle.packing.specs.Message.{message_at}
 use Rattle.transcript.proofs.TextLaws.{answers, series-told, text-told}
 use Rattle.transcript.proofs.tell_next.Goals as goal
@@ -21,7 +21,7 @@ returns c =
     let put = c.tell_answer-used.ensures in
     let large = c.requires.room_size_in_bounds.0 in
     record {
-      series = series-told t.series message a.room.now read e large;
+      series = c.series_left-series.ensures ∙ series-told t.series message a.room.now read e large;
       number = refl;
       at = c.place_behind.ensures;
       put = text-told t.series message a.room.now read e large a.view t.number put.text_put;

@@ -1,5 +1,4 @@
 use Rattle.arrival.specs.Take.{offered}
-use Rattle.arrival.specs.declared.take.Next.TheVariants.{Nothing, With}
 use Rattle.kinds.specs.Kinds.{minds}
 use Rattle.book.specs.Shape.{entries_of}
 use mathlib.Core.Path.{sym, ap, ◌∙◌}
@@ -17,14 +16,9 @@ returns-then-not-is_offered c =
     c.bound_of-cap.ensures
     (ap (offered c.args.e.sell _) (sym c.requires.faces.contra) ∙ sym c.is_offered.ensures ∙ c.if-not-is_offered.true)
 
-pub returns-in-Nothing : goal.returns-in-Nothing
-returns-in-Nothing c =
-    trades-now c.args.t c.args.e (entries_of c.args.b) _ _ Nothing
+pub returns : goal.returns
+returns c =
+    c.is_some.ensures
+    ∙ trades-now c.args.t c.args.e (entries_of c.args.b) _ _ c.next_trade.result
     (ap minds (sym c.kind_of.ensures) ∙ sym c.is_minding.ensures ∙ c.if-is_minding.false) c.market_of.ensures
-    c.bound_of-cap.ensures (sym c.in-Nothing.is ∙ c.next_trade-next.ensures)
-
-pub returns-in-With : goal.returns-in-With
-returns-in-With c =
-    trades-now c.args.t c.args.e (entries_of c.args.b) _ _ (With _)
-    (ap minds (sym c.kind_of.ensures) ∙ sym c.is_minding.ensures ∙ c.if-is_minding.false) c.market_of.ensures
-    c.bound_of-cap.ensures (sym c.in-With.is ∙ c.next_trade-next.ensures)
+    c.bound_of-cap.ensures c.next_trade.ensures

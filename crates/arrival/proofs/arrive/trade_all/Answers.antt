@@ -5,7 +5,7 @@ pub replace-c-requires : goal.replace-c-requires
 replace-c-requires c = enter-replaces c.requires
 
 pub take-requires : goal.take-requires
-take-requires c = enter-takes c.requires c.replace-c.ensures
+take-requires c = enter-takes c.requires c.replace-c.ensures.told
 
 pub returns : goal.returns
-returns c = enter-left c.requires c.replace-c.ensures c.take.ensures
+returns c = enter-left c.requires c.replace-c.ensures.told c.take.ensures.told

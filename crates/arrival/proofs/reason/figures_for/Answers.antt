@@ -5,30 +5,15 @@ use Rattle.arrival.proofs.EnterLaws.{prices-known}
 use Rattle.arrival.proofs.FiguresLaws.{figures-bar, figures-stop}
 use Rattle.arrival.proofs.reason.figures_for.Goals as goal
 
-pub bar_figures-requires : goal.bar_figures-requires
-bar_figures-requires c = c.requires.cents
-
 pub returns-then-rule-ge24 : goal.returns-then-rule-ge24
 returns-then-rule-ge24 c =
     c.bar_figures.ensures
     ∙ rw c.guard_of.ensures
     (figures-bar c.args.t c.args.e c.args.f.national (entries_of c.args.b) c.args.rule c.if-rule-ge24.true)
 
-pub prices_of-p-requires : goal.prices_of-p-requires
-prices_of-p-requires c = c.requires.posts.bounds
-
-pub stop_figures-requires : goal.stop_figures-requires
-stop_figures-requires c = c.requires.posts.bounds.step
-
 pub returns : goal.returns
 returns c =
     c.stop_figures.ensures c.args.e.kind
-    ∙ rw (
-      c.away_of-away.ensures,
-      c.market_of.ensures,
-      c.hidden_for-hidden.ensures,
-      c.prices_of-p.ensures,
-      prices-known c.requires.posts,
-    )
+    ∙ rw (c.interest_of.ensures, c.posting_of.ensures, c.prices_of-p.ensures, prices-known c.requires.posts)
     (figures-stop c.args.t c.args.e c.args.f.national (entries_of c.args.b) c.args.rule
     (omega (arith, c.if-rule-ge24.false)))

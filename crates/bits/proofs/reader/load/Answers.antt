@@ -1,38 +1,27 @@
--- `load`: the loop's number is that of the bytes passed, and is below 2 ^ (8 * i).
-use Prim.Native.Nat.{◌≤◌, ◌<◌, ◌*◌}
-use mathlib.Core.Path.{◌≡◌}
+use Prim.Native.Nat.{◌≤◌, ◌*◌}
+use mathlib.Core.Path.{◌≡◌, ap, ◌∙◌}
 use native.Mathlib.Omega.{arith}
 use native.Mathlib.Numerals.{add-one}
-use lib.ListN.{length, drop, length-drop}
-use lib.Seq.{get_or-drop}
+use Prim.Native.Nat.{ℕ}
+use lib.ListN.{length}
 use lib.Pow.{pow_mono}
+use Rattle.bits.specs.Fields.{join, bytes}
 use Rattle.bits.proofs.ByteLaws.{join-snoc, more_lt}
 use Rattle.bits.proofs.reader.load.Goals as goal
 
-pub loop-i-init : goal.loop-i-init
-loop-i-init c = omega arith
-
 pub overflow_mul-acc : goal.overflow_mul-acc
 overflow_mul-acc c =
-    let h : 8 * c.loop-i.i ≤ 56 = omega arith in
-    omega (arith, pow_mono h)
+    let h : 8 * c.loop-byte.byte-index ≤ 56 = omega arith in
+    record { fits = omega (arith, pow_mono h) }
 
-pub overflow_add-acc : goal.overflow_add-acc
-overflow_add-acc c =
-    let h : 8 * c.loop-i.i ≤ 56 = omega arith in
-    omega (arith, pow_mono h)
-
-pub loop-i-preserved : goal.loop-i-preserved
-loop-i-preserved c =
-    let l = c.loop-i in
-    let a = c.args in
-    let h : l.i < length (drop a.at a.s.now) = simp length-drop (omega arith) in (
-      omega arith,
-      rw (add-one, join-snoc l.i (drop a.at a.s.now) h, get_or-drop) (omega arith),
-      more_lt l.i l.acc c.wide.result l.invariant.2 c.wide.ensures.1,
+pub loop-byte-preserved : goal.loop-byte-preserved
+loop-byte-preserved c =
+    let l = c.loop-byte in (
+      rw (add-one, join-snoc l.byte-index c.args.part.now c.loop-byte-test.true) (omega arith),
+      more_lt l.byte-index l.acc c.from.result l.invariant.1 (omega (arith, c.type_inv.part l.byte-index)),
     )
 
 pub returns : goal.returns
 returns c =
-    let e : c.loop-i.i ≡ c.args.n = omega arith in
-    rw (← e) c.loop-i.invariant.1
+    let whole : c.loop-byte.byte-index ≡ length c.args.part.now = omega arith in
+    c.loop-byte.invariant.0 ∙ ap (λ (n : ℕ). join (bytes n) c.args.part.now) whole

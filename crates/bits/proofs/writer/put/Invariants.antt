@@ -3,6 +3,3 @@ use Rattle.bits.proofs.writer.put.Given as goal
 
 abbrev pub invariant-loop-i : goal.invariant-loop-i
 invariant-loop-i l = Shifting l.initial.out l.w l.x l.out l.carry l.i
-
-abbrev pub decreases-loop-i : goal.decreases-loop-i
-decreases-loop-i l = l.i

@@ -1,17 +1,12 @@
-use native.Mathlib.Omega.{arith}
-use Rattle.lists.proofs.LoopLaws.{scan-start, scan-turn, scan-done}
-use Rattle.book.specs.Shape.{zero_entry, entries_of}
-use Rattle.book.specs.Look.{nearest}
+use Rattle.std.proofs.Common.{rules}
+use Rattle.std.specs.List.{fold}
+use Rattle.book.specs.Look.{facing, hidden_price}
+use Rattle.book.specs.Shape.{entries_of}
+use Rattle.book.proofs.LookLaws.{hidden-folded}
+use mathlib.Core.Path.{◌≡◌, ◌∙◌}
 use Rattle.book.proofs.look.best_hidden.Goals as goal
 
-pub loop-i-init : goal.loop-i-init
-loop-i-init c = scan-start
-
-pub loop-i-preserved : goal.loop-i-preserved
-loop-i-preserved c =
-    scan-turn c.hidden_turn-best.result zero_entry c.loop-i.invariant (omega (arith, c.requires.few, c.requires.places)) c.loop-i-test.true
-    c.hidden_turn-best.ensures
-
 pub returns : goal.returns
-unfolding entries_of nearest
-returns c = scan-done c.loop-i.invariant c.loop-i-test.false
+returns c =
+    let h : c.fold.result ≡ fold (facing hidden_price c.args.sell) 0 (entries_of c.args.b) = search rules in
+    h ∙ hidden-folded _ _

@@ -3,7 +3,7 @@ use Rattle.book.proofs.look.cost_of.Goals as goal
 
 pub returns-then-sell : goal.returns-then-sell
 unfolding cost
-returns-then-sell c = rw c.if-sell.true c.less.ensures
+returns-then-sell c = rw c.if-sell.true c.saturating_sub.ensures
 
 pub returns-else-sell : goal.returns-else-sell
 unfolding cost

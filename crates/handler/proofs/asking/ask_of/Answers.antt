@@ -19,21 +19,3 @@ returns-in-Displayed c = c.ask_to_enter-in-Displayed.ensures ∙ sym (ap ask_of 
 
 pub returns-in-Dark : goal.returns-in-Dark
 returns-in-Dark c = c.ask_to_enter-in-Dark.ensures ∙ sym (ap ask_of c.in-Dark.is)
-
-pub returns-in-CancelEntry : goal.returns-in-CancelEntry
-returns-in-CancelEntry c = c.ask_for.ensures ∙ sym (ap ask_of c.in-CancelEntry.is)
-
-pub returns-in-CancelQuote : goal.returns-in-CancelQuote
-returns-in-CancelQuote c = c.ask_for-in-CancelQuote.ensures ∙ sym (ap ask_of c.in-CancelQuote.is)
-
-pub returns-in-Away : goal.returns-in-Away
-returns-in-Away c = c.ask_for-in-Away.ensures ∙ sym (ap ask_of c.in-Away.is)
-
-pub returns-in-Underlying : goal.returns-in-Underlying
-returns-in-Underlying c = c.ask_for-in-Underlying.ensures ∙ sym (ap ask_of c.in-Underlying.is)
-
-pub returns-in-Phase : goal.returns-in-Phase
-returns-in-Phase c = c.ask_for-in-Phase.ensures ∙ sym (ap ask_of c.in-Phase.is)
-
-pub returns-in-Enable : goal.returns-in-Enable
-returns-in-Enable c = c.ask_for-in-Enable.ensures ∙ sym (ap ask_of c.in-Enable.is)

@@ -34,13 +34,13 @@ arrive-requires c =
           (sym c.is_entering.ensures ∙ c.if-is_entering.true))))) c.requires.roomy;
     }
 
-pub returns-then-is_entering : goal.returns-then-is_entering
-returns-then-is_entering c =
+pub returns-then-is_entering-clause-told : goal.returns-then-is_entering-clause-told
+returns-then-is_entering-clause-told c =
     staged-as
     (ap (λ (e : Entry). arrived c.args.s.terms e (entries_of c.args.s.book)) c.comer_of-e.ensures
     ∙ sym
     (own-enters c.args.s.terms c.args.a (entries_of c.args.s.book)
-    (sym c.is_entering.ensures ∙ c.if-is_entering.true))) c.arrive.ensures
+    (sym c.is_entering.ensures ∙ c.if-is_entering.true))) c.arrive.ensures.told
 
 pub overflow_cast-party : goal.overflow_cast-party
 overflow_cast-party c =
@@ -60,10 +60,10 @@ cancel_entry-requires c =
           (own-entry c.args.s.terms c.args.a (entries_of c.args.s.book) c.if-a-eq-CANCEL_ENTRY.true)) c.requires.roomy;
     }
 
-pub returns-then-a-eq-CANCEL_ENTRY : goal.returns-then-a-eq-CANCEL_ENTRY
-returns-then-a-eq-CANCEL_ENTRY c =
+pub returns-then-a-eq-CANCEL_ENTRY-clause-told : goal.returns-then-a-eq-CANCEL_ENTRY-clause-told
+returns-then-a-eq-CANCEL_ENTRY-clause-told c =
     staged-as (sym (own-entry c.args.s.terms c.args.a (entries_of c.args.s.book) c.if-a-eq-CANCEL_ENTRY.true))
-    c.cancel_entry.ensures
+    c.cancel_entry.ensures.told
 
 pub overflow_cast-party-then-a-eq-CANCEL_QUOTE : goal.overflow_cast-party-then-a-eq-CANCEL_QUOTE
 overflow_cast-party-then-a-eq-CANCEL_QUOTE c =
@@ -83,10 +83,10 @@ cut_quote-requires c =
           (own-quote c.args.s.terms c.args.a (entries_of c.args.s.book) c.if-a-eq-CANCEL_QUOTE.true)) c.requires.roomy;
     }
 
-pub returns-then-a-eq-CANCEL_QUOTE : goal.returns-then-a-eq-CANCEL_QUOTE
-returns-then-a-eq-CANCEL_QUOTE c =
+pub returns-then-a-eq-CANCEL_QUOTE-clause-told : goal.returns-then-a-eq-CANCEL_QUOTE-clause-told
+returns-then-a-eq-CANCEL_QUOTE-clause-told c =
     staged-as (sym (own-quote c.args.s.terms c.args.a (entries_of c.args.s.book) c.if-a-eq-CANCEL_QUOTE.true))
-    c.cut_quote.ensures
+    c.cut_quote.ensures.told
 
 pub note_phase-requires : goal.note_phase-requires
 note_phase-requires c =
@@ -98,22 +98,22 @@ note_phase-requires c =
           (own-phase c.args.s.terms c.args.a (entries_of c.args.s.book) c.if-a-eq-PHASE.true)) c.requires.roomy;
     }
 
-pub returns-then-a-eq-PHASE : goal.returns-then-a-eq-PHASE
-returns-then-a-eq-PHASE c =
+pub returns-then-a-eq-PHASE-clause-told : goal.returns-then-a-eq-PHASE-clause-told
+returns-then-a-eq-PHASE-clause-told c =
     staged-as (sym (own-phase c.args.s.terms c.args.a (entries_of c.args.s.book) c.if-a-eq-PHASE.true))
-    c.note_phase.ensures
+    c.note_phase.ensures.told
 
-pub put-requires : goal.put-requires
-put-requires c =
+pub tell-requires : goal.tell-requires
+tell-requires c =
     roomy-as
     (ap (λ (x : Ran (List Entry) Report). x.records)
     (own-noted c.args.s.terms c.args.a (entries_of c.args.s.book) (sym c.is_entering.ensures ∙ c.if-is_entering.false)
     (ne_eqb _ _ c.if-a-eq-CANCEL_ENTRY.false) (ne_eqb _ _ c.if-a-eq-CANCEL_QUOTE.false) (ne_eqb _ _ c.if-a-eq-PHASE.false))) c.requires.roomy
 
-pub returns : goal.returns
-returns c =
+pub returns-clause-told : goal.returns-clause-told
+returns-clause-told c =
     staged-as
     (sym
     (own-noted c.args.s.terms c.args.a (entries_of c.args.s.book) (sym c.is_entering.ensures ∙ c.if-is_entering.false)
     (ne_eqb _ _ c.if-a-eq-CANCEL_ENTRY.false) (ne_eqb _ _ c.if-a-eq-CANCEL_QUOTE.false) (ne_eqb _ _ c.if-a-eq-PHASE.false)))
-    (told-staged c.args.s.book c.requires.acts.whole.well c.put.ensures)
+    (told-staged c.args.s.book c.requires.acts.whole.well c.tell.ensures.put)

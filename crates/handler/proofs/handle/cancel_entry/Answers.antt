@@ -13,10 +13,10 @@ cut_rank-requires c =
     (entry_of c.args.party c.args.entry l) _ (entry-tells l c.args.party c.args.entry) c.find_entry-rank.ensures
     c.requires.roomy
 
-pub returns : goal.returns
-returns c =
+pub returns-clause-told : goal.returns-clause-told
+returns-clause-told c =
     let l = entries_of c.args.b in
     staged-as
     (cut-rank (own_entry c.args.party c.args.entry) (λ _. 0) c.args.b c.requires.well 28
     (entry_of c.args.party c.args.entry l) _ (entry-tells l c.args.party c.args.entry) c.find_entry-rank.ensures)
-    c.cut_rank.ensures
+    c.cut_rank.ensures.told

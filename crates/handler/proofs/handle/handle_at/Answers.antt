@@ -1,8 +1,6 @@
 use mathlib.Core.Path.{ap, ◌∙◌}
-use mathlib.Core.Option.{Option}
+use Rattle.std.specs.Prelude.{Option}
 use Rattle.packing.specs.declared.message.Event.{Event}
-use Rattle.packing.specs.Message.{event_in}
-use Rattle.packing.proofs.MessageLaws.{event-in}
 use Rattle.handler.specs.Handle.{handled_as, handled}
 use Rattle.handler.proofs.handle.handle_at.Goals as goal
 
@@ -10,4 +8,4 @@ pub returns : goal.returns
 unfolding handled
 returns c =
     c.handle_read.ensures
-    ∙ ap (λ (o : Option Event). handled_as c.args.series o c.args.room.now) (ap event_in c.unpack_at.ensures.value ∙ event-in _)
+    ∙ ap (λ (o : Option Event). handled_as c.args.series o c.args.room.now) c.unpack_at.ensures.value

@@ -1,32 +1,38 @@
-use mathlib.Core.Path.{◌≡◌, ap, ◌∙◌}
-use lib.ListN.{length}
-use Rattle.packing.specs.Message.{event_in}
-use Rattle.handler.proofs.Ways.{returns-early, admits-space, admits-whole, returns-unread, returns-judged}
+use mathlib.Core.Path.{◌≡◌, sym, ◌∙◌}
 use borrow.Author.Rules.{rules}
+use borrow.Author.Tests.{ltb-false}
+use lib.ListN.{length}
+use Rattle.packing.specs.Room.{room_size}
+use Rattle.handler.proofs.Ways.{returns-short, returns-unsound, returns-unread, returns-judged, admits}
+use Rattle.handler.proofs.RefuseLaws.{passed_by, refused_by, there_by, missing_by}
 use Rattle.handler.proofs.handle.handle_read.Goals as goal
 
-pub returns-then-why-ne0 : goal.returns-then-why-ne0
-returns-then-why-ne0 c =
-    returns-early c.args.series (event_in c.args.read) c.args.room.now _ c.check_series-check.ensures
-    c.first_of-why.ensures c.if-why-ne0.true _ c.refused.ensures
+pub returns-in_err-refuse_if : goal.returns-in_err-refuse_if
+returns-in_err-refuse_if c =
+    let p = refused_by _ _ c.in_err-refuse_if.ensures _ c.from_residual.ensures.1 in
+    rw p.1 (returns-short c.args.series c.args.read c.args.room.now p.0)
+
+pub returns-in_err-check : goal.returns-in_err-check
+returns-in_err-check c =
+    let p = missing_by _ _ c.in_err-check.ensures.value _ c.from_residual-in_err-check.ensures.1 in
+    rw p.1 (returns-unsound c.args.series c.args.read c.args.room.now (passed_by _ _ c.in_ok-refuse_if.ensures) (rw p.0 at c.check_series.ensures))
 
 pub returns-in_default : goal.returns-in_default
 returns-in_default c =
-    returns-unread c.args.series (event_in c.args.read) c.args.room.now _ c.check_series-check.ensures
-    c.first_of-why.ensures c.if-why-ne0.false (ap event_in c.in_default.is) _ c.refused-in_default.ensures
+    returns-unread c.args.series c.args.read c.args.room.now (passed_by _ _ c.in_ok-refuse_if.ensures)
+    (rw (there_by _ _ c.in_ok-check.ensures.value) at c.check_series.ensures) c.in_default.is
 
 pub answer_event-requires : goal.answer_event-requires
 answer_event-requires c =
     let makers : length c.args.series.blocked ≡ 16 = search rules in
+    let space = passed_by _ _ c.in_ok-refuse_if.ensures in
     record {
-      whole = admits-whole c.args.series (event_in c.args.read) c.args.room.now _ c.check_series-check.ensures
-          c.first_of-why.ensures c.if-why-ne0.false makers;
-      room_size_in_bounds = admits-space c.args.series (event_in c.args.read) c.args.room.now _ c.check_series-check.ensures
-          c.first_of-why.ensures c.if-why-ne0.false;
+      whole = admits c.args.series c.args.read c.args.room.now space (rw (there_by _ _ c.in_ok-check.ensures.value) at c.check_series.ensures) makers;
+      room_size_in_bounds = ltb-false (length c.args.room.now) room_size space;
     }
 
 pub returns : goal.returns
 returns c =
-    c.answer_event.ensures ∙ returns-judged c.args.series (event_in c.args.read) c.args.room.now _
-    c.check_series-check.ensures c.first_of-why.ensures c.if-why-ne0.false c.in-Message.event
-    (ap event_in c.in-Message.is)
+    c.answer_event.ensures
+    ∙ returns-judged c.args.series c.args.read c.args.room.now (passed_by _ _ c.in_ok-refuse_if.ensures)
+    (rw (there_by _ _ c.in_ok-check.ensures.value) at c.check_series.ensures) c.in-Some.event c.in-Some.is

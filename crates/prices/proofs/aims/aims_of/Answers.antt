@@ -1,6 +1,5 @@
 use Rattle.prices.proofs.AimLaws.{if-any-minded}
 use Rattle.prices.proofs.StepLaws.{is-none-or-legal, if-any-is}
-use Rattle.prices.specs.Aims.{aim_display, aim_working}
 use Rattle.prices.proofs.aims.aims_of.Goals as goal
 
 pub held_short-display-requires : goal.held_short-display-requires
@@ -8,14 +7,3 @@ held_short-display-requires c = (c.requires.step, rw c.contra_minded-c.ensures (
 
 pub held_short-working-requires : goal.held_short-working-requires
 held_short-working-requires c = (c.requires.step, rw c.contra_minded-c.ensures (if-any-is (if-any-minded _ (is-none-or-legal _ _ c.requires.contra))))
-
-pub returns : goal.returns
-unfolding aim_display aim_working
-returns c =
-    rw (
-      c.held_short-working.ensures,
-      c.held_to.ensures,
-      c.held_short-display.ensures,
-      c.held_short.ensures,
-      c.contra_minded-c.ensures,
-    )

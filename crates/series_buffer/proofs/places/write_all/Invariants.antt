@@ -1,9 +1,5 @@
 use Rattle.series_buffer.proofs.PlacesLaws.{Writing}
-use Prim.Native.Nat.{◌-◌}
 use Rattle.series_buffer.proofs.places.write_all.Given as goal
 
 abbrev pub invariant-loop-i : goal.invariant-loop-i
 invariant-loop-i l = Writing l.places l.i l.out
-
-abbrev pub decreases-loop-i : goal.decreases-loop-i
-decreases-loop-i l = 64 - l.i

@@ -1,11 +1,11 @@
 use mathlib.Core.Path.{ap, ◌∙◌}
-use mathlib.Core.Option.{Option}
+use Rattle.std.specs.Prelude.{Option}
 use Rattle.packing.specs.declared.message.Event.{Event}
-use Rattle.packing.specs.Message.{event_in}
-use Rattle.packing.proofs.MessageLaws.{event-in}
 use Rattle.server.specs.Check.{check_as, check}
 use Rattle.server.proofs.check.waxglimmer_check_at.Goals as goal
 
 pub returns : goal.returns
 unfolding check
-returns c = c.check_read.ensures ∙ ap (λ (o : Option Event). check_as o c.args.m) (ap event_in c.unpack_at.ensures.value ∙ event-in _)
+returns c =
+    c.number_in.ensures ∙ c.check_read.ensures
+    ∙ ap (λ (o : Option Event). check_as o c.args.m) c.unpack_at.ensures.value

@@ -1,8 +1,6 @@
 use mathlib.Core.Path.{ap, ◌∙◌}
-use mathlib.Core.Option.{Option}
+use Rattle.std.specs.Prelude.{Option}
 use Rattle.packing.specs.declared.message.Event.{Event}
-use Rattle.packing.specs.Message.{event_in}
-use Rattle.packing.proofs.MessageLaws.{event-in}
 use Rattle.server.specs.Explain.{explain_as, explain}
 use Rattle.server.proofs.explain.waxglimmer_why_at.Goals as goal
 
@@ -11,4 +9,4 @@ unfolding explain
 returns c =
     c.explain_read.ensures
     ∙ ap (λ (o : Option Event). explain_as c.args.state.now o c.args.place c.args.room.now)
-    (ap event_in c.unpack_at-read.ensures.value ∙ event-in _)
+    c.unpack_at-read.ensures.value

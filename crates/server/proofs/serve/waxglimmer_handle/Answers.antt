@@ -1,8 +1,6 @@
 use mathlib.Core.Path.{ap, ◌∙◌}
-use mathlib.Core.Option.{Option}
+use Rattle.std.specs.Prelude.{Option}
 use Rattle.packing.specs.declared.message.Event.{Event}
-use Rattle.packing.specs.Message.{event_in}
-use Rattle.packing.proofs.MessageLaws.{event-in}
 use Rattle.server.specs.Serve.{serve_as, serve}
 use Rattle.server.proofs.serve.waxglimmer_handle.Goals as goal
 
@@ -10,4 +8,4 @@ pub returns : goal.returns
 unfolding serve
 returns c =
     c.serve_read.ensures
-    ∙ ap (λ (o : Option Event). serve_as c.args.state.now o c.args.room.now) (ap event_in c.unpack-read.ensures.value ∙ event-in _)
+    ∙ ap (λ (o : Option Event). serve_as c.args.state.now o c.args.room.now) c.unpack-read.ensures.value

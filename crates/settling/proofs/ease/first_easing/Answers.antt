@@ -1,11 +1,6 @@
-use Rattle.book.proofs.NumberLaws.{soonest-start, soonest-turn, soonest-end}
+use Rattle.std.proofs.Common.{rules}
+use Rattle.settling_theory.specs.Settle.{easing}
 use Rattle.settling.proofs.ease.first_easing.Goals as goal
 
-pub loop-i-init : goal.loop-i-init
-loop-i-init c = soonest-start c.nobody-held.ensures
-
-pub loop-i-preserved : goal.loop-i-preserved
-loop-i-preserved c = soonest-turn c.loop-i.invariant c.requires c.loop-i-test.true c.is_entry_easing.ensures c.sooner-held.ensures
-
 pub returns : goal.returns
-returns c = soonest-end c.loop-i.invariant c.loop-i-test.false c.rank_of.ensures
+returns c = c.lowest.ensures (easing c.args.market) (λ e b met. search rules)

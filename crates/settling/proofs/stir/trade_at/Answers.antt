@@ -4,24 +4,24 @@ use Rattle.book.specs.Shape.{entries_of}
 use mathlib.Core.Path.{sym, ◌∙◌}
 use Rattle.settling.proofs.stir.trade_at.Goals as goal
 
-pub returns-in_default : goal.returns-in_default
-returns-in_default c =
+pub returns-in_default-clause-told : goal.returns-in_default-clause-told
+returns-in_default-clause-told c =
     staged-step (entries_of c.args.b)
-    (trade-none c.args.b c.args.i c.requires.place (sym c.in_default.is ∙ c.best_contra-rank.ensures))
+    (trade-none c.args.b c.args.i c.requires.place (sym c.in_default.is ∙ c.best_contra.ensures))
     (staged-stop c.requires.place.well)
 
 pub deal-requires : goal.deal-requires
 deal-requires c =
-    let e = sym c.in-At.is ∙ c.best_contra-rank.ensures in
+    let e = sym c.in-Some.is ∙ c.best_contra.ensures in
     record {
-      two = trade-two c.args.b c.args.i c.requires.place c.in-At.j e;
+      two = trade-two c.args.b c.args.i c.requires.place c.in-Some.j e;
       roomy =
-          roomy-step (entries_of c.args.b) (trade-is c.args.b c.args.i c.requires.place c.in-At.j e)
+          roomy-step (entries_of c.args.b) (trade-is c.args.b c.args.i c.requires.place c.in-Some.j e)
           c.requires.roomy;
     }
 
-pub returns : goal.returns
-returns c =
+pub returns-clause-told : goal.returns-clause-told
+returns-clause-told c =
     staged-step (entries_of c.args.b)
-    (trade-is c.args.b c.args.i c.requires.place c.in-At.j
-    (sym c.in-At.is ∙ c.best_contra-rank.ensures)) c.deal.ensures
+    (trade-is c.args.b c.args.i c.requires.place c.in-Some.j
+    (sym c.in-Some.is ∙ c.best_contra.ensures)) c.deal.ensures.told

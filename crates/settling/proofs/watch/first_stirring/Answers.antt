@@ -1,14 +1,6 @@
-use Rattle.book.proofs.NumberLaws.{soonest-start, soonest-turn, soonest-end}
+use Rattle.std.proofs.Common.{rules}
+use Rattle.settling.specs.Turns.{stirring_by}
 use Rattle.settling.proofs.watch.first_stirring.Goals as goal
 
-pub loop-i-init : goal.loop-i-init
-loop-i-init c = soonest-start c.nobody-held.ensures
-
-pub is_entry_stirring-requires : goal.is_entry_stirring-requires
-is_entry_stirring-requires c = c.requires.judged
-
-pub loop-i-preserved : goal.loop-i-preserved
-loop-i-preserved c = soonest-turn c.loop-i.invariant c.requires.well c.loop-i-test.true c.is_entry_stirring.ensures c.sooner-held.ensures
-
 pub returns : goal.returns
-returns c = soonest-end c.loop-i.invariant c.loop-i-test.false c.rank_of.ensures
+returns c = c.lowest.ensures (stirring_by c.args.market c.args.front) (λ e b met. search rules)

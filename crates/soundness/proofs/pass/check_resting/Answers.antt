@@ -14,7 +14,7 @@ returns-then-not-is_sound_entry c =
     let at = c.loop-i in
     refused
     (entry-fails at.invariant (omega (arith, c.requires.few, c.requires.places)) c.loop-i-test.true
-    (sym c.is_sound_entry.ensures ∙ c.if-not-is_sound_entry.true)) c.broken.ensures
+    (sym c.is_sound_entry.ensures ∙ c.if-not-is_sound_entry.true))
 
 pub returns-then-not-is_new : goal.returns-then-not-is_new
 unfolding entries_of
@@ -22,7 +22,7 @@ returns-then-not-is_new c =
     let at = c.loop-i in
     refused
     (number-fails at.invariant (omega (arith, c.requires.few, c.requires.places)) c.loop-i-test.true
-    (sym c.is_new.ensures ∙ c.if-not-is_new.true)) c.broken-then-not-is_new.ensures
+    (sym c.is_new.ensures ∙ c.if-not-is_new.true))
 
 pub bounds-seats-seat : goal.bounds-seats-seat
 bounds-seats-seat c =
@@ -37,7 +37,7 @@ returns-then-seats-seat c =
     refused
     (seat-fails at.invariant (omega (arith, c.requires.few, c.requires.places)) c.loop-i-test.true
     (sym c.is_sound_entry.ensures ∙ c.if-not-is_sound_entry.false)
-    (rw (← c.seat_of-seat.ensures) c.if-seats-seat.true)) c.broken-then-seats-seat.ensures
+    (rw (← c.seat_of-seat.ensures) c.if-seats-seat.true))
 
 pub bounds-seats-seat-in-loop-i : goal.bounds-seats-seat-in-loop-i
 bounds-seats-seat-in-loop-i c =
@@ -56,4 +56,4 @@ loop-i-preserved c =
 
 pub returns : goal.returns
 unfolding entries_of
-returns c = read_done c.requires.step c.loop-i.invariant c.loop-i-test.false c.passed.result c.passed.ensures
+returns c = rw c.passed.ensures (read_done c.requires.step c.loop-i.invariant c.loop-i-test.false)

@@ -1,4 +1,0 @@
-use Rattle.prices.proofs.post.is_obstructed.Goals as goal
-
-pub returns : goal.returns
-returns c = rw (c.is_reaching.ensures, c.is_light.ensures)

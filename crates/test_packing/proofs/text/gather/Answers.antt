@@ -1,9 +1,0 @@
-use lib.ListN.{length-set}
-use native.Mathlib.Omega.{arith}
-use Rattle.test_packing.proofs.text.gather.Goals as goal
-
-pub loop-n-smaller : goal.loop-n-smaller
-loop-n-smaller c = simp length-set (omega arith)
-
-pub loop-n-preserved : goal.loop-n-preserved
-loop-n-preserved c = (simp length-set (omega arith), simp length-set (omega arith))
