@@ -51,7 +51,7 @@ module _ {E : Type 0} (C : Codec E) where
   unfolding thing_of
   nothing-told l h = ap (λ (u : Option E). checked C u l) h
 
-  -- what the fields say that `codec::read` found, if it found any
+  -- what the fields say that `codec::read_row` found, if it found any
   abbrev pub said_in : Option (List ℕ) → Option E
   said_in None = None
   said_in (Some xs) = thing_of C xs
@@ -64,12 +64,12 @@ module _ {E : Type 0} (C : Codec E) where
       by true = refl
       by false = refl
 
-  -- WHAT BYTES UNPACK TO: where `codec::read` found o, what these fields say
+  -- WHAT BYTES UNPACK TO: where `codec::read_row` found o, what these fields say
   pub read-told : (ws : List ℕ) (n : ℕ) → ws ≡ C.widths → n ≡ C.size → (s : List ℕ) (o : Option (List ℕ)) → fields_read s n ws ≡ o
       → (r : Option E) → r ≡ said_in o → r ≡ unpack_of C s
   read-told ws n w k s o h r e = e ∙ ap said_in (sym h ∙ ap₂ (fields_read s) k w) ∙ read-said s
 
-  -- WHAT A THING PACKS TO: what `codec::write` makes of its fields
+  -- WHAT A THING PACKS TO: what `codec::write_row` makes of its fields
   pub pack-told : (ws : List ℕ) (n : ℕ) → ws ≡ C.widths → n ≡ C.size → (e : E) (xs : List ℕ) (admitted : Bool) → xs ≡ C.code e → admitted ≡ C.admitted e
       → (r : Option (List ℕ)) → r ≡ fields_written n ws xs admitted → r ≡ pack_of C e
   unfolding pack_of packs bytes_of
@@ -88,7 +88,7 @@ module _ {E : Type 0} (C : Codec E) where
   unfolding bytes_of
   written-told ws n w k e xs x = ap₂ (λ (m : ℕ) (v : ℕ). split (bytes m) v) k (ap₂ join w x)
 
--- the fields that `codec::read` found fit their widths
+-- the fields that `codec::read_row` found fit their widths
 pub read-fit : (s : List ℕ) (n : ℕ) (ws xs : List ℕ) → fields_read s n ws ≡ Some xs → Fit ws xs
 read-fit s n ws xs h =
     let p : Some (split ws (join (bytes n) s)) ≡ Some xs = (only_if-some (eqb (length s) n) (Some (split ws (join (bytes n) s))) xs h).1 in
@@ -101,14 +101,14 @@ pub record Answer {E : Type 0} (C : Codec E) : Type 0 where
   pub says : (u : Option E) → said u ≡ answer_of C u
 
 module _ {E : Type 0} (C : Codec E) (A : Answer C) where
-  -- where the answer is what bytes unpack to, so are its number and fields
-  pub right : (s : List ℕ) (r : Option E) → r ≡ unpack_of C s → (r ≡ unpack_of C s) × (A.said r ≡ answer_of C (unpack_of C s))
-  right s r h = (h, ap A.said h ∙ A.says (unpack_of C s))
+  -- where it is right, so are its number and fields
+  pub right : (u r : Option E) → r ≡ u → (r ≡ u) × (A.said r ≡ answer_of C u)
+  right u r h = (h, ap A.said h ∙ A.says u)
 
-  -- WHAT BYTES UNPACK TO, and its number and fields: where `codec::read` found o, what these fields say
+  -- WHAT BYTES UNPACK TO, and its number and fields: where `codec::read_row` found o, what these fields say
   pub unpack-told : (ws : List ℕ) (n : ℕ) → ws ≡ C.widths → n ≡ C.size → (s : List ℕ) (o : Option (List ℕ)) → fields_read s n ws ≡ o
       → (r : Option E) → r ≡ said_in C o → (r ≡ unpack_of C s) × (A.said r ≡ answer_of C (unpack_of C s))
-  unpack-told ws n w k s o h r e = right s r (read-told C ws n w k s o h r e)
+  unpack-told ws n w k s o h r e = right (unpack_of C s) r (read-told C ws n w k s o h r e)
 
 -- What the table of a codec has to meet
 pub record Lawful {E : Type 0} (C : Codec E) : Type 0 where

@@ -72,5 +72,5 @@ answer = record { said = said_by; says = says }
 pub short : (run : List ℕ) (at : ℕ) → length run < at + messages.size
     → (None ≡ unpack_of messages (message_at run at)) × (said_by None ≡ answer_of messages (unpack_of messages (message_at run at)))
 short run at h =
-    right messages answer (message_at run at) None
+    right messages answer (unpack_of messages (message_at run at)) None
     (sym (unpack-short messages (drop at run) (rw length-drop (omega arith))))

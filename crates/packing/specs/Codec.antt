@@ -1,6 +1,6 @@
 -- What it is to be packed, once for setups, messages and reports: fields in bits, most significant bit first, and a table that says
 -- which number and which fields each case has.
-use Rattle.std.specs.Prelude.{ℕ, ◌*◌, ◌≤◌, Bool, true, false, ◌&&◌, List, [], ◌∷◌, ◌≡◌, eqb, length}
+use Rattle.std.specs.Prelude.{ℕ, ◌*◌, ◌≤◌, Bool, true, false, cond, ◌&&◌, List, [], ◌∷◌, ◌≡◌, eqb, length}
 use Rattle.std.specs.Prelude.{Option, None, Some}
 use Rattle.bits.specs.Fields.{total, join, split, bytes, Narrow, all_fit, equal}
 
@@ -53,6 +53,17 @@ pub record Tabled {E : Type 0} (C : Codec E) (ws : List ℕ) (k n : ℕ) : Type 
   pub size : n ≡ C.size
   pub few : k ≤ 64
   pub layout : Layout ws k n
+
+-- fields of the widths ws were asked of s: ok, if s has n bytes, and the fields are then theirs, and otherwise those that stood there
+pub record FieldsRead (s : List ℕ) (n : ℕ) (ws stood : List ℕ) (ok : Bool) (fields : List ℕ) : Type 0 where
+  pub long : ok ≡ eqb (length s) n
+  pub read : fields ≡ cond ok (split ws (join (bytes n) s)) stood
+
+-- fields of the widths ws were to be written where some bytes stood: ok, if each fits and the thing that they say is admitted, and the
+-- bytes are then theirs, and otherwise those that stood there
+pub record FieldsWritten (stood ws fields : List ℕ) (admitted ok : Bool) (s : List ℕ) : Type 0 where
+  pub fit : ok ≡ (all_fit ws fields && admitted)
+  pub written : s ≡ cond ok (split (bytes (length stood)) (join ws fields)) stood
 
 -- the fields of the widths ws that s holds, if it has n bytes
 abbrev pub fields_read : List ℕ → ℕ → List ℕ → Option (List ℕ)

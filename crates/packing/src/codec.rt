@@ -1,7 +1,7 @@
 // What packing has in common, whatever is packed: fields in bytes. What differs is a table: the widths, and which fields a thing has.
 ghost use Rattle.std.specs.Prelude.{◌≡◌, length, ℕ, List};
 ghost use Rattle.bits.specs.Fields.{Fit};
-ghost use Rattle.packing.specs.Codec.{Codec, Layout, Tabled, fields_read, fields_written, thing_of, unpack_of, packs, bytes_of, pack_of};
+ghost use Rattle.packing.specs.Codec.{Codec, Layout, Tabled, FieldsRead, FieldsWritten, fields_read, fields_written, thing_of, unpack_of, packs, bytes_of, pack_of};
 
 // A sort of packed thing: N fields in SIZE bytes.
 pub trait Packs<const N: usize, const SIZE: usize>: Sized + Copy {
@@ -28,28 +28,54 @@ pub trait Packs<const N: usize, const SIZE: usize>: Sized + Copy {
     ghost tabled: { Tabled codec WIDTHS N SIZE };
 }
 
-// The fields of the widths ws that n bytes hold; none for bytes of another length.
-pub fn read<const N: usize>(s: &[u8], n: usize, ws: [u8; N]) -> Option<[u32; N]>
+// Reads the fields of the widths ws out of n bytes. Answers false, and leaves xs as it was, for bytes of another length.
+pub fn read(s: &[u8], n: usize, ws: &[u8], xs: &mut [u32]) -> bool
+    requires { Layout ws.now (length xs.old) n }
+    ensures { FieldsRead s.now n ws.now xs.old result xs.new }
+{
+    if s.len() == n {
+        bits::reader::read_all(s, n, ws, xs);
+        true
+    } else {
+        false
+    }
+}
+
+// The fields of the widths ws that n bytes hold, as a row of their own; none for bytes of another length.
+pub fn read_row<const N: usize>(s: &[u8], n: usize, ws: [u8; N]) -> Option<[u32; N]>
     requires { Layout ws N n }
     ensures { result ≡ fields_read s.now n ws.entry }
 {
-    if s.len() != n {
-        return None;
-    }
     let mut xs = [0; N];
-    bits::reader::read_all(s, n, &ws, &mut xs);
-    Some(xs)
+    if read(s, n, &ws, &mut xs) {
+        Some(xs)
+    } else {
+        None
+    }
 }
 
-// The bytes of the fields xs of the widths ws; none if one does not fit its width, or the thing that they say is not admitted.
-pub fn write<const SIZE: usize>(ws: &[u8], xs: &[u32], admitted: bool) -> Option<[u8; SIZE]>
-    requires { Layout ws.now (length xs.now) SIZE }
-    ensures { result ≡ fields_written SIZE ws.now xs.now admitted }
+// Writes the fields xs of the widths ws over all of out, if each fits its width and the thing that they say is admitted. Answers false,
+// and leaves out as it was, otherwise.
+pub fn write(out: &mut [u8], ws: &[u8], xs: &[u32], admitted: bool) -> bool
+    requires { Layout ws.now (length xs.now) (length out.old) }
+    ensures { FieldsWritten out.old ws.now xs.now admitted result out.new }
 {
     let fits = bits::tests::fits(ws, xs);
     if fits & admitted {
-        let mut out = [0; SIZE];
-        bits::writer::write_all(&mut out, ws, xs);
+        bits::writer::write_all(out, ws, xs);
+        true
+    } else {
+        false
+    }
+}
+
+// The bytes of the fields xs of the widths ws; none if one does not fit its width, or the thing that they say is not admitted.
+pub fn write_row<const SIZE: usize>(ws: &[u8], xs: &[u32], admitted: bool) -> Option<[u8; SIZE]>
+    requires { Layout ws.now (length xs.now) SIZE }
+    ensures { result ≡ fields_written SIZE ws.now xs.now admitted }
+{
+    let mut out = [0; SIZE];
+    if write(&mut out, ws, xs, admitted) {
         Some(out)
     } else {
         None
@@ -74,7 +100,7 @@ fn thing_of<T: Packs<N, SIZE>, const N: usize, const SIZE: usize>(xs: [u32; N]) 
 pub fn unpack<T: Packs<N, SIZE>, const N: usize, const SIZE: usize>(bytes: &[u8]) -> Option<T>
     ensures { result ≡ unpack_of T.codec bytes.now }
 {
-    thing_of(read(bytes, SIZE, T::WIDTHS)?)
+    thing_of(read_row(bytes, SIZE, T::WIDTHS)?)
 }
 
 // The bytes of a thing; none for one of which a field does not fit, or that is not admitted.
@@ -82,7 +108,7 @@ pub fn pack<T: Packs<N, SIZE>, const N: usize, const SIZE: usize>(thing: T) -> O
     ensures { result ≡ pack_of T.codec thing }
 {
     let xs = thing.code();
-    write(&T::WIDTHS, &xs, thing.is_admitted())
+    write_row(&T::WIDTHS, &xs, thing.is_admitted())
 }
 
 // Whether a thing packs: whether each of its fields fits its width, and it is admitted.
