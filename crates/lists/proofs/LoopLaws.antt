@@ -30,8 +30,8 @@ pub record Scanning {A S : Type 0} (turn : S → ℕ → A → S) (s₀ : S) (es
   pub left : scan turn s i (drop i (take n es)) ≡ scan turn s₀ 0 (take n es)
 
 module _ {A S : Type 0} {turn : S → ℕ → A → S} {s₀ : S} {es : List A} {n : ℕ} where
-  -- No proof cites the three: the loops that they served are `for` loops over slices and folds of std now, by `scan-more` and `scan-fold`
-  -- below. They stand for a loop that counts its places by hand.
+  -- No proof cites the three: the loops that they served are `for` loops, folds and `position` of std now (`scan-more` and `scan-fold` below,
+  -- `position-first` of book). They stand for a loop that counts its places by hand.
   pub scan-start : Scanning turn s₀ es n s₀ 0
   scan-start = record { within = omega arith; left = refl }
 
