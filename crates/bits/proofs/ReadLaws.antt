@@ -35,6 +35,7 @@ pub record Reading (ws : List ℕ) (v : ℕ) (xs : List ℕ) (after j : ℕ) : T
   pub done : take j xs ≡ take j (split ws v)
   pub rest : after ≡ total (drop j ws)
 
+-- No proof cites it: the check finds by itself that the loop of `read_all` starts so. It stands as the first of the three laws of a loop.
 pub reading-start : (ws : List ℕ) (v : ℕ) (xs : List ℕ) (n : ℕ) → length xs ≡ length ws → total ws ≡ n → Reading ws v xs n 0
 reading-start ws v xs n h e = record { same = h; within = omega arith; done = refl; rest = sym e }
 

@@ -36,6 +36,7 @@ shift-num : (b m c x v v₀ p t : ℕ) → v + c * p ≡ v₀ * m + x → t ≡ 
     → t % 256 * p + v + t / 256 * (p * 256) ≡ (b * p + v₀) * m + x
 shift-num b m c x v v₀ p t h e = omega (arith, ap (λ (z : ℕ). z * p) (div-add-mod' t 256), ap (λ (z : ℕ). z * p) e)
 
+-- No proof cites it: the check finds by itself that the loop of `put` starts so. It stands as the first of the three laws of a loop.
 pub shift-start : (s : List ℕ) (w x : ℕ) → Bytes s → x < 2 ^ 32 → Shifting s w x s x (length s)
 shift-start s w x b h =
     let e : length s - length s ≡ 0 = omega arith in

@@ -174,6 +174,7 @@ pub front-faces : (front : Front) (l : List Entry) → front ≡ front_of l → 
 front-faces front l e false = ap (λ (f : Front). f.offer) e
 front-faces front l e true = ap (λ (f : Front). f.bid) e
 
+-- No proof cites it: the check finds it for `front_turn`, whose code makes a front of two prices. It stands for proofs that do so.
 pub same-front : {bid bid' offer offer' : ℕ} → bid ≡ bid' → offer ≡ offer'
     → ◌≡◌ {A = Front} (record { bid = bid; offer = offer }) (record { bid = bid'; offer = offer' })
 same-front p q = λ i. record { bid = p i; offer = q i }

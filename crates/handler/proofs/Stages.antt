@@ -57,6 +57,7 @@ module _ (t : Terms) (a : Ask) (l : List Entry) where
 
 -- "After every accepted message in an open series."
 module _ (t : Terms) (l : List Entry) where
+  -- No proof cites it: the check finds it where `settle_if` settles. It stands for the open series, as the next law for the others.
   pub settled-open : eqb t.phase 1 ≡ true → settled_if t l ≡ settled (market_of t) l
   settled-open q = rw q
 

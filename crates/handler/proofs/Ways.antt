@@ -49,6 +49,7 @@ module _ (s : Series) (message room : List ℕ) where
             ∙ ap (λ (b : Bool). cond b (accepted s (ask_of e) room) (refused (refusal_of s (ask_of e)) s room)) (eq-eqb (refusal_of s (ask_of e)) 0 h)
 
 -- what is refused before the message is read, and what is known where nothing is
+-- No proof cites it: the code tests 10 and 11 one by one, by `returns-short` and `returns-unsound` below. It says it of both at once.
 pub refused-early : (s : Series) (event : Option Event) (room : List ℕ) → (before_reading (length room) (sound_series s) ≡ 0 → ⊥)
     → handled_as s event room ≡ refused (before_reading (length room) (sound_series s)) s room
 unfolding handled_as

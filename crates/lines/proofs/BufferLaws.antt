@@ -15,6 +15,7 @@ use Rattle.lines.specs.Buffer.{TextPut, longest_line, roomy, printed}
 pub put-none : (out : List ℕ) (at : ℕ) → TextPut out at [] out at
 put-none out at = record { stored = refl; ends = omega arith }
 
+-- No proof cites it: the check finds it for `byte` of text.rt. It stands beside the other two, for a text that is put byte by byte.
 pub put_byte : (out : List ℕ) (at b : ℕ) → TextPut out at (b ∷ []) (set out at b) (at + 1)
 put_byte out at b = record { stored = refl; ends = omega arith }
 

@@ -37,6 +37,7 @@ line-short number xs n few f = omega (arith, line-length number xs, decimal-leng
 pub next_field : (xs : List ℕ) (i : ℕ) → i < length xs → spaced (drop i xs) ≡ (space ∷ decimal (get_or xs i 0)) ++ spaced (drop (i + 1) xs)
 next_field xs i h = ap spaced (drop-cons xs i 0 h ∙ ap (λ (k : ℕ). get_or xs i 0 ∷ drop k xs) (sym (add-one i)))
 
+-- No proof cites it: the check finds it where the loop of `fields` ends. It stands as the end of that loop, beside its turn.
 pub no_field : (xs : List ℕ) (i : ℕ) → length xs ≤ i → spaced (drop i xs) ≡ []
 no_field xs i h = ap spaced (drop_of_length-le xs h)
 

@@ -30,6 +30,8 @@ pub record Scanning {A S : Type 0} (turn : S → ℕ → A → S) (s₀ : S) (es
   pub left : scan turn s i (drop i (take n es)) ≡ scan turn s₀ 0 (take n es)
 
 module _ {A S : Type 0} {turn : S → ℕ → A → S} {s₀ : S} {es : List A} {n : ℕ} where
+  -- No proof cites the three: the loops that they served are `for` loops, folds and `position` of std now (`scan-more` and `scan-fold` below,
+  -- `position-first` of book). They stand for a loop that counts its places by hand.
   pub scan-start : Scanning turn s₀ es n s₀ 0
   scan-start = record { within = omega arith; left = refl }
 
@@ -72,6 +74,8 @@ module _ {A : Type 0} (test : A → Bool) (es : List A) (n from : ℕ) where
     pub within : i ≤ n
     pub left : all test (drop i (take n es)) ≡ all test (drop from (take n es))
 
+  -- No proof cites these four: std's `all` asks it now, whose contract says so (`all-std` of soundness). They stand for a loop by hand that
+  -- leaves early.
   pub check-start : from ≤ n → Checking from
   check-start h = record { within = h; left = refl }
 
@@ -97,6 +101,7 @@ module _ {A : Type 0} (test : A → Bool) (es : List A) (n : ℕ) where
     pub within : i ≤ n
     pub left : any test (drop i (take n es)) ≡ any test (take n es)
 
+  -- Nor these: std's `any` and `contains` ask it now (`any-std` of soundness). They stand for a loop by hand that leaves early.
   pub ask-start : Asking 0
   ask-start = record { within = omega arith; left = refl }
 

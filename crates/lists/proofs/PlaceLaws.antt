@@ -67,6 +67,8 @@ module _ {A : Type 0} where
 
   -- ---- taking out, by parts ----
 
+  -- No proof cites it: the book takes out by turning a part of its array, and the law of that goes by cases. It stands for code that takes
+  -- out by copying parts.
   pub without-parts : (i : ℕ) (l : List A) → without i l ≡ take i l ++ drop (i + 1) l
   unfolding without
   without-parts i l = rw (add-one i) (go i l)
