@@ -14,7 +14,7 @@
 2. Every public function of crates/*/src has its row in docs/PROMISES.md under its crate, and
    every function of a row there exists.
 
-Left out are docs/changes, docs/PORT.md and docs/DESIGN-PASS.md: a note of a past change names what stood there then,
+Left out are docs/changes, docs/PORT.md, docs/DESIGN-PASS.md and docs/LOOK-BACK.md: a note of a past change names what stood there then,
 and is not written again when that moves.
 """
 
@@ -290,7 +290,7 @@ class Promises:
 # ---------------------------------------------------------------- everything
 
 def documents():
-    return [ROOT / "README.md"] + sorted(ROOT.glob("*/README.md")) + sorted(path for path in ROOT.glob("docs/*.md") if path.name not in ("PORT.md", "DESIGN-PASS.md"))
+    return [ROOT / "README.md"] + sorted(ROOT.glob("*/README.md")) + sorted(path for path in ROOT.glob("docs/*.md") if path.name not in ("PORT.md", "DESIGN-PASS.md", "LOOK-BACK.md"))
 
 
 def main():
