@@ -1,5 +1,6 @@
 -- The scan for the first least key of those that pass, as settling and sweeping ask for it by entry number, and a taker by priority: its start, a
--- turn of it, and its end. `least_of` of `look` goes by these. Then the same of entry numbers, in a book.
+-- turn of it, and its end. `least_of` of `look` goes by these. Then the same of entry numbers, in a book: `soonest-number` and `soonest-lowest`, the
+-- case that docs/RULES cites, which no proof does.
 -- Assumes nothing.
 use Prim.Native.Nat.{ℕ, ◌+◌, ◌≤◌, ◌<◌}
 use mathlib.Core.Path.{◌≡◌, refl, sym, ap, ◌∙◌}

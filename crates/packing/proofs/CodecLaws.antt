@@ -1,18 +1,18 @@
 -- The laws of anything packed, once for setups, messages and reports: what the functions that pack and unpack cite, and the round trips.
 use Prim.Native.Nat.{ℕ, min, ◌<◌}
-use mathlib.Core.Bool.{Bool, true, false, ◌&&◌}
+use mathlib.Core.Bool.{Bool, true, false, cond, ◌&&◌}
 use mathlib.Core.List.{List}
 use Rattle.std.specs.Prelude.{Option, None, Some}
 use mathlib.Core.Path.{◌≡◌, refl, sym, ap, ap₂, ◌∙◌, subst}
 use native.Mathlib.Omega.{arith}
 use lib.Dec.{eqb}
-use lib.ListN.{length, take, length-take}
+use lib.ListN.{length, take, replicate, length-take, length-replicate}
 use borrow.Author.Tests.{eqb-true, eq-eqb, ne_eqb}
 use Rattle.bits.specs.Fields.{total, join, split, bytes, Bytes, Fit, all_fit, equal}
 use Rattle.bits.proofs.FieldLaws.{recode, split-fit, length-split}
 use Rattle.bits.proofs.ByteLaws.{fit-bytes}
 use Rattle.bits.proofs.TestLaws.{both_left, both_right, equal-true, equal-refl, all_fit-true, fit-all_fit}
-use Rattle.packing.specs.Codec.{Codec, fields_read, fields_written, bit, only_if, fields_in}
+use Rattle.packing.specs.Codec.{Codec, FieldsRead, FieldsWritten, fields_read, fields_written, bit, only_if, fields_in}
 use Rattle.packing.specs.Codec.{bytes_of, checked, thing_of, unpack_of, answer_of, packs, pack_of}
 
 -- a side or a flag can be told from its bit
@@ -64,17 +64,37 @@ module _ {E : Type 0} (C : Codec E) where
       by true = refl
       by false = refl
 
+  -- after `codec::read`, which answered b and left xs
+  unpack-read : (s stood xs : List ℕ) (ok b : Bool) → FieldsRead s C.size C.widths stood ok xs → ok ≡ b
+      → unpack_of C s ≡ only_if b (thing_of C xs)
+  unfolding unpack_of
+  unpack-read s stood xs ok true f h =
+      ap (λ (b : Bool). only_if b (thing_of C (fields_in C s))) (sym f.long ∙ h)
+      ∙ ap (thing_of C) (sym (f.read ∙ ap (λ (b : Bool). cond b (fields_in C s) stood) h))
+  unpack-read s stood xs ok false f h = ap (λ (b : Bool). only_if b (thing_of C (fields_in C s))) (sym f.long ∙ h)
+
   -- WHAT BYTES UNPACK TO: where `codec::read_row` found o, what these fields say
   pub read-told : (ws : List ℕ) (n : ℕ) → ws ≡ C.widths → n ≡ C.size → (s : List ℕ) (o : Option (List ℕ)) → fields_read s n ws ≡ o
       → (r : Option E) → r ≡ said_in o → r ≡ unpack_of C s
   read-told ws n w k s o h r e = e ∙ ap said_in (sym h ∙ ap₂ (fields_read s) k w) ∙ read-said s
 
   -- WHAT A THING PACKS TO: what `codec::write_row` makes of its fields
-  pub pack-told : (ws : List ℕ) (n : ℕ) → ws ≡ C.widths → n ≡ C.size → (e : E) (xs : List ℕ) (admitted : Bool) → xs ≡ C.code e → admitted ≡ C.admitted e
+  pub pack-row : (ws : List ℕ) (n : ℕ) → ws ≡ C.widths → n ≡ C.size → (e : E) (xs : List ℕ) (admitted : Bool) → xs ≡ C.code e → admitted ≡ C.admitted e
       → (r : Option (List ℕ)) → r ≡ fields_written n ws xs admitted → r ≡ pack_of C e
   unfolding pack_of packs bytes_of
-  pack-told ws n w k e xs admitted x a r h =
+  pack-row ws n w k e xs admitted x a r h =
       h ∙ ap₂ (λ (m : ℕ) (us : List ℕ). fields_written m us xs admitted) k w ∙ ap₂ (fields_written C.size C.widths) x a
+
+  -- the same where `codec::write` answered ok, and left `out` where zeros stood. No proof cites it: `codec::pack` goes by the row
+  pub pack-told : (e : E) {xs out : List ℕ} {ok admitted : Bool} → xs ≡ C.code e → admitted ≡ C.admitted e
+      → FieldsWritten (replicate C.size 0) C.widths xs admitted ok out
+      → only_if ok (Some out) ≡ pack_of C e
+  unfolding pack_of packs bytes_of
+  pack-told e {ok = true} x a w =
+      ap Some (w.written ∙ ap₂ (λ (n : ℕ) (l : List ℕ). split (bytes n) (join C.widths l)) (length-replicate C.size 0) x)
+      ∙ ap (λ (b : Bool). only_if b (Some (split (bytes C.size) (join C.widths (C.code e))))) (w.fit ∙ ap₂ ◌&&◌ (ap (all_fit C.widths) x) a)
+  pack-told e {ok = false} x a w =
+      ap (λ (b : Bool). only_if b (Some (split (bytes C.size) (join C.widths (C.code e))))) (w.fit ∙ ap₂ ◌&&◌ (ap (all_fit C.widths) x) a)
 
   -- WHETHER A THING PACKS: what `codec::fits` finds of its fields
   pub packs-told : (ws : List ℕ) → ws ≡ C.widths → (e : E) (xs : List ℕ) (few admitted : Bool) → xs ≡ C.code e → few ≡ all_fit ws xs
@@ -106,9 +126,16 @@ module _ {E : Type 0} (C : Codec E) (A : Answer C) where
   right u r h = (h, ap A.said h ∙ A.says u)
 
   -- WHAT BYTES UNPACK TO, and its number and fields: where `codec::read_row` found o, what these fields say
-  pub unpack-told : (ws : List ℕ) (n : ℕ) → ws ≡ C.widths → n ≡ C.size → (s : List ℕ) (o : Option (List ℕ)) → fields_read s n ws ≡ o
+  pub unpack-row : (ws : List ℕ) (n : ℕ) → ws ≡ C.widths → n ≡ C.size → (s : List ℕ) (o : Option (List ℕ)) → fields_read s n ws ≡ o
       → (r : Option E) → r ≡ said_in C o → (r ≡ unpack_of C s) × (A.said r ≡ answer_of C (unpack_of C s))
-  unpack-told ws n w k s o h r e = right (unpack_of C s) r (read-told C ws n w k s o h r e)
+  unpack-row ws n w k s o h r e = right (unpack_of C s) r (read-told C ws n w k s o h r e)
+
+  -- the same where `codec::read` answered b, and the answer was made of the fields that it read. No proof cites these two: the check finds the
+  -- number and fields by itself
+  pub unpack-told : {s stood xs : List ℕ} {ok : Bool} (b : Bool) {r : Option E} → FieldsRead s C.size C.widths stood ok xs → ok ≡ b
+      → r ≡ only_if b (thing_of C xs)
+      → (r ≡ unpack_of C s) × (A.said r ≡ answer_of C (unpack_of C s))
+  unpack-told {s} {stood} {xs} {ok} b {r} f h e = right (unpack_of C s) r (e ∙ sym (unpack-read C s stood xs ok b f h))
 
 -- What the table of a codec has to meet
 pub record Lawful {E : Type 0} (C : Codec E) : Type 0 where
