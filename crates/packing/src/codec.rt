@@ -1,7 +1,8 @@
 // What packing has in common, whatever is packed: fields in bytes. What differs is a table: the widths, and which fields a thing has.
 ghost use Rattle.std.specs.Prelude.{◌≡◌, length, ℕ, List};
 ghost use Rattle.bits.specs.Fields.{Fit};
-ghost use Rattle.packing.specs.Codec.{Codec, Layout, Tabled, FieldsRead, FieldsWritten, fields_read, fields_written, thing_of, unpack_of, packs, bytes_of, pack_of};
+ghost use Rattle.packing.specs.Codec.{Codec, Layout, Tabled, FieldsRead, FieldsWritten, fields_read, fields_written};
+ghost use Rattle.packing.specs.Codec.{thing_of, unpack_of, packs, bytes_of, pack_of};
 
 // A sort of packed thing: N fields in SIZE bytes.
 pub trait Packs<const N: usize, const SIZE: usize>: Sized + Copy {
