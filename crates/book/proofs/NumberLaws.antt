@@ -60,4 +60,6 @@ module _ (b : Book) {test : Entry → Bool} {held : Option Least} {i : ℕ} (v :
 
   pub soonest-lowest : b.count ≤ i → {r : Option ℕ} → r ≡ option_map (λ (h : Least). h.at) held → r ≡ rank_of (lowest test (entries_of b))
   unfolding lowest entries_of
-  soonest-lowest h e = let k : length (take b.count b.entries) ≡ min b.count (length b.entries) = length-take b.count b.entries in soonest-end v (omega (arith, h, k)) e
+  soonest-lowest h e =
+      let k : length (take b.count b.entries) ≡ min b.count (length b.entries) = length-take b.count b.entries in
+      soonest-end v (omega (arith, h, k)) e

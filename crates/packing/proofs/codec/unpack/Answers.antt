@@ -19,7 +19,8 @@ read_row-requires g c =
 pub returns-in_err-read_row : goal.returns-in_err-read_row
 returns-in_err-read_row g c =
     let t = g.met.T.Packs.tabled in
-    read-told g.T.Packs.codec _ _ (c.WIDTHS.ensures ∙ t.widths) t.size c.args.bytes.now None (sym c.read_row.ensures ∙ c.in_err-read_row.was) _ c.from_residual.ensures
+    read-told g.T.Packs.codec _ _ (c.WIDTHS.ensures ∙ t.widths) t.size c.args.bytes.now None (sym c.read_row.ensures ∙ c.in_err-read_row.was)
+    _ c.from_residual.ensures
 
 pub thing_of-requires : goal.thing_of-requires
 thing_of-requires g c = (
@@ -30,5 +31,5 @@ thing_of-requires g c = (
 pub returns : goal.returns
 returns g c =
     let t = g.met.T.Packs.tabled in
-    read-told g.T.Packs.codec _ _ (c.WIDTHS.ensures ∙ t.widths) t.size c.args.bytes.now (Some c.in_ok-read_row.field-0) (sym c.read_row.ensures ∙ c.in_ok-read_row.was)
-    _ c.thing_of.ensures
+    read-told g.T.Packs.codec _ _ (c.WIDTHS.ensures ∙ t.widths) t.size c.args.bytes.now (Some c.in_ok-read_row.field-0)
+    (sym c.read_row.ensures ∙ c.in_ok-read_row.was) _ c.thing_of.ensures
